@@ -1,57 +1,40 @@
 -- The terms of a whole can be merged.
-use Rattle.std.proofs.Common.{ℕ, ◌*◌, ◌^◌, ◌≤◌, ◌==◌, arith, refl, sym, List, [], ◌∷◌}
-use Rattle.std.proofs.Common.{◌++◌, subst}
-use Rattle.std.specs.Prelude.{map}
-use Rattle.std.proofs.lemmas.Bool.{lt-ltb}
-use Rattle.index_fn.specs.Mapping.{Mapping, Strided, ThomasIn, ThomasOut, ThomasBack}
-use Rattle.sigma_lower.specs.Machine.{IsMachine}
-use Rattle.sigma_spl.proofs.Walk.{chosen}
-use Rattle.sigma_spl.specs.Limits.{AreSeveral, HasRows, HasSeveral}
-use Rattle.sigma_spl.specs.Merge.{back_of, unit_below}
-use Rattle.sigma_spl.specs.Sigma.{AllCanMerge}
+use Rattle.sigma_lower.proofs.Words.{ℕ, ◌*◌, ◌^◌, ◌≤◌, ◌==◌, arith, refl, sym, List, [], ◌∷◌, ◌++◌, subst, map, Mapping}
+use Rattle.sigma_lower.proofs.Words.{Strided, ThomasIn, ThomasOut, ThomasBack, IsMachine, chosen, AreSeveral, back_of}
+use Rattle.sigma_lower.proofs.Words.{unit_below, HasNumbers, PlainWork, kernel, rows, horner, tile, copy, embed}
+use Rattle.sigma_lower.proofs.Words.{phase_term, core_term, PlainPass, Merging, new_pass, scattered, multiplied}
+use Rattle.sigma_lower.proofs.Words.{merge_term, merged, passes_of_terms, in_order, merged_of, IsGoodPiece, IsVecOf}
+use Rattle.sigma_lower.proofs.Words.{IsGoodCore, IsGood, AreGood, factor_term, lowered_of, wrapped, layout_smp, within}
+use Rattle.sigma_lower.proofs.Words.{core_size, PlainCore, piece, turns, thomas_in, thomas_out, PlainStep, step}
+use Rattle.sigma_lower.proofs.Words.{CanShareLayout, Layout, IsGoodLayout, only, Target, Columns, Path, size_under}
+use Rattle.sigma_lower.proofs.Words.{vec_of, PlainFactor, move_after, factor_step, lt-ltb, HasSeveral, AllCanMerge}
+use Rattle.sigma_lower.proofs.Words.{AreWords, IsGoodWhole}
+use Rattle.sigma_spl.specs.Limits.{HasRows}
 use Rattle.sigma_spl.specs.Term.{scat}
-use Rattle.sigma_spl.specs.Words.{AreWords, HasNumbers}
-use Rattle.sigma_spl.specs.Work.{PlainWork, kernel, rows, horner, tile, copy, HasWords}
+use Rattle.sigma_spl.specs.Work.{HasWords}
 use Rattle.sigma_lower.specs.Merged.{TreesCanMerge}
-use Rattle.sigma_lower.specs.Shared.{embed, phase_term}
-use Rattle.sigma_lower.specs.Trees.{core_term}
 use Rattle.sigma_lower.proofs.Closing.{closed-can}
 use Rattle.sigma_lower.proofs.Embedded.{embed-core, sizes-of}
 use Rattle.sigma_lower.proofs.Moves.{back-wrapped}
 use Rattle.sigma_lower.proofs.Numbers.{numbers-wrapped, strided-closed, in-closed, out-closed}
 use Rattle.sigma_lower.proofs.SharedTrees.{AllEmbed, trees_embed}
 use Rattle.sigma_lower.proofs.TreeLoops.PassLists.{AllPasses, all-map, all-split, last-back}
-use Rattle.sigma_lower.proofs.TreeLoops.Shaped.{AreShaped, IsShaped, IsShapedWork}
+use Rattle.sigma_lower.proofs.TreeLoops.Shaped.{IsShapedWork}
+use Rattle.sigma_lower.proofs.TreeLoops.RootPlaces.{IsGoodPlace}
 use Rattle.sigma_lower.proofs.TreeLoops.TreePlaces.{tree_good_places}
-use Rattle.sigma_lower.specs.TreeLoops.Merge.{PlainPass, Merging, new_pass, scattered, multiplied, merge_term, merged}
-use Rattle.sigma_lower.specs.TreeLoops.Merge.{passes_of_terms, in_order, merged_of}
-use Rattle.sigma_lower.specs.TreeTerms.Good.{IsGoodPiece, IsVecOf, IsGoodCore, IsGood, AreGood}
-use Rattle.sigma_lower.specs.TreeTerms.Term as lowered
-use Rattle.sigma_lower.specs.TreeTerms.Term.{lowered_after, factor_term, lowered_of}
-use Rattle.sigma_lower.specs.TreeTerms.Wrapped.{wrapped}
+use Rattle.sigma_lower.specs.TreeTerms.Term.{lowered_after}
 use Rattle.sigma_lower.proofs.TreeTerms.Goods.{vec_good, phases_good}
-use Rattle.smp_rewrite.specs.Cut.{layout_smp}
-use Rattle.smp_rewrite.specs.Smp.{within}
-use Rattle.smp_rewrite.specs.LayoutSteps.Meaning.{core_size}
+use Rattle.vec_rewrite.specs.Vectors.{tiles}
+use Rattle.sigma_lower.specs.TreeTerms.Term as lowered
 use Rattle.smp_rewrite.specs.LayoutSteps.Step as steps
-use Rattle.smp_rewrite.specs.LayoutSteps.Step.{PlainCore, piece, turns, thomas_in, thomas_out, PlainStep, step}
-use Rattle.smp_rewrite.specs.Fits.{CanShareLayout}
-use Rattle.smp_rewrite.specs.LayoutSteps.Layout.{Layout, IsGoodLayout}
-use Rattle.smp_rewrite.specs.LayoutSteps.Whole.{only, IsGoodWhole}
-use Rattle.operators.specs.declared.target.Target.{Target}
-use Rattle.operators.specs.declared.tensor_paths.Tensor.TheVariants.{Columns}
-use Rattle.operators.specs.TensorPaths.Path.{Path, size_under}
-use Rattle.vec_rewrite.specs.Turning.{vec_of}
-use Rattle.vec_rewrite.specs.Vectors.{PlainFactor, lanes, diagonals, move_before, move_after, tiles, factor_step}
 
 -- ---- numbers
 
 piece-words : (w : PlainWork) → IsGoodPiece w → HasWords w
 piece-words (kernel trees) h = h
-piece-words (rows root size) h = tt
-piece-words (horner root size) h = tt
 piece-words (tile v) h = absurd h
 piece-words (copy size) h = absurd h
+piece-words _ h = tt
 
 -- a scatter by a permutation under tensors
 scat-words : (path : Path) (n : ℕ) (f : Mapping) → HasNumbers (size_under path n) (wrapped path n f) →
@@ -78,24 +61,19 @@ step-words c s valid h =
 
 after-words : (c : Target) (path : Path) (k : PlainCore) → IsMachine c → IsGood c.size (step path k) →
     AreWords c.size (embed (lowered_after (step path k)))
-after-words c path (piece t) valid h = step-words c (step path (piece t)) valid h
 after-words c path (turns r s) valid h =
     let n = r * s in
     let sizes = sizes-of c (step path (turns r s)) valid h in
     let closed = strided-closed r s (omega (arith, h.core.0)) (omega (arith, h.core.1)) sizes.low in
     subst (λ m. AreWords m (scat (wrapped path n (Strided s r)))) h.size
     (scat-words path n (Strided s r) (numbers-wrapped path n (Strided s r) sizes.high refl closed.1 closed.0) (numbers-wrapped path n (Strided r s) sizes.high refl closed.0 closed.1))
-after-words c path (steps.twiddles r s w) valid h = step-words c (step path (steps.twiddles r s w)) valid h
-after-words c path (thomas_in r s) valid h = step-words c (step path (thomas_in r s)) valid h
-after-words c path (thomas_out r s) valid h = step-words c (step path (thomas_out r s)) valid h
+after-words c path k valid h = step-words c (step path k) valid h
 
 factor-words : (c : Target) (p v : ℕ) (f : PlainFactor) → IsMachine c → IsGood c.size (factor_step p v f) →
     AreWords c.size (embed (factor_term p v f))
-factor-words c p v (lanes s) valid h = step-words c (factor_step p v (lanes s)) valid h
-factor-words c p v (diagonals s) valid h = step-words c s valid h
-factor-words c p v (move_before s) valid h = step-words c (factor_step p v (move_before s)) valid h
 factor-words c p v (move_after s) valid h = after-words c (within (Columns v) s.path) s.core valid h
 factor-words c p v (tiles path) valid h = let sizes = sizes-of c (factor_step p v (tiles path)) valid h in omega (arith, sizes.low)
+factor-words c p v f valid h = step-words c (factor_step p v f) valid h
 
 abbrev AreWordPhases : Target → List (List lowered.PlainTerm) → Type 0
 AreWordPhases c [] = Unit {0}
@@ -143,14 +121,10 @@ nests-several (lowered.nest path w ∷ ts) st h =
     ((passes.1.0, rest.0), passes.0)
 
 shaped-rows : (m : ℕ) (w : PlainWork) → IsShapedWork m w → HasRows w
-shaped-rows m (kernel trees) h = tt
 shaped-rows m (rows root size) h = h.0
 shaped-rows m (horner root size) h = absurd h
-shaped-rows m (tile v) h = tt
 shaped-rows m (copy size) h = absurd h
-
-shaped-several : (m size : ℕ) (ps : List PlainPass) → AreShaped (IsShapedWork m) size ps → AllPasses IsSeveral ps
-shaped-several m size = all-map (IsShaped (IsShapedWork m) size) IsSeveral (λ p h. (h.wide, shaped-rows m p.work h.work))
+shaped-rows m _ h = tt
 
 -- ---- phases
 
@@ -175,7 +149,8 @@ trees_can_merge c w can =
     let shares = can.shares in
     let good = can.good.layout in
     let embeds = trees_embed c l valid shares good in
-    let several = shaped-several c.modulus c.size (merged_of c l) (tree_good_places c l shares good).shaped in
+    let several = all-map (IsGoodPlace c (IsShapedWork c.modulus)) IsSeveral
+    (λ p h. (h.shaped.wide, shaped-rows c.modulus p.work h.shaped.work)) (merged_of c l) (tree_good_places c l shares good) in
     let phases = all-can c (lowered_of c l) valid embeds several (tree-words c l valid shares good) in
     record {
       some = valid.size.0;

@@ -1,22 +1,13 @@
 -- The products after the last phase: what they do, and that they can be merged.
-use Rattle.std.proofs.Common.{◌≡◌, ℕ, ◌==◌, Bool, true, false, arith, refl, sym, ap, ◌∙◌, List, [], ◌∷◌, ◌++◌}
-use Rattle.std.proofs.Common.{if◌then◌else◌}
-use Rattle.std.specs.Prelude.{map, Option, None, Some}
-use Rattle.std.proofs.lemmas.List.{map-append}
-use Rattle.sigma_lower.specs.Merged.{closing_term, close_last, closed_phases}
-use Rattle.sigma_lower.specs.Shared.{phase_term}
-use Rattle.operators.specs.Operator.{scale}
-use Rattle.sigma_spl.specs.Sigma.{AllCanMerge, terms_on}
-use Rattle.sigma_spl.specs.Term.{PlainTerm, product, term_on}
+use Rattle.sigma_lower.proofs.Words.{on_last, ◌≡◌, ℕ, ◌==◌, Bool, true, false, arith, refl, sym, ap, ◌∙◌, List, [], ◌∷◌}
+use Rattle.sigma_lower.proofs.Words.{◌++◌, if◌then◌else◌, map, Option, None, Some, map-append, close_last}
+use Rattle.sigma_lower.proofs.Words.{closed_phases, phase_term, scale, product, term_on, factor_term, terms_in, within}
+use Rattle.sigma_lower.proofs.Words.{size-within, Blocks, size_under, PlainFactor, PlainVec, closing_term, AllCanMerge}
+use Rattle.sigma_lower.proofs.Words.{terms_on, closed_on}
+use Rattle.sigma_lower.proofs.TreeSigmas.Lasts.{last-append}
+use Rattle.sigma_spl.specs.Term.{PlainTerm}
 use Rattle.sigma_spl.specs.Views.{plain_term}
 use Rattle.sigma_spl.specs.declared.term.Term.{Term}
-use Rattle.sigma_lower.specs.TreeTerms.Term.{factor_term, terms_in}
-use Rattle.smp_rewrite.specs.Smp.{within}
-use Rattle.smp_rewrite.proofs.Tensors.{size-within}
-use Rattle.smp_rewrite.specs.LayoutSteps.Whole.{closed_on}
-use Rattle.operators.specs.declared.tensor_paths.Tensor.TheVariants.{Blocks}
-use Rattle.operators.specs.TensorPaths.Path.{size_under}
-use Rattle.vec_rewrite.specs.Vectors.{PlainFactor, PlainVec}
 
 -- ---- there is a last phase
 
@@ -63,11 +54,9 @@ closed-can lanes n (Some v) ts h = close-can lanes n v ts h
 
 -- ---- the code takes the last phase and puts it back with them
 
-close-append : (n v : ℕ) (ts : List PlainTerm) (t : PlainTerm) →
-    close_last n v (ts ++ t ∷ []) ≡ ts ++ product t (closing_term n v) ∷ []
-close-append n v [] t = refl
-close-append n v (u ∷ []) t = refl
-close-append n v (u ∷ w ∷ ts) t = ap (λ us. u ∷ us) (close-append n v (w ∷ ts) t)
+pub close-is : (n v : ℕ) (ts : List PlainTerm) → close_last n v ts ≡ on_last (λ t. product t (closing_term n v)) ts
+close-is n v (t ∷ u ∷ ts) = ap (λ us. t ∷ us) (close-is n v (u ∷ ts))
+close-is n v _ = refl
 
 pub closed_last : (n v : ℕ) (all made rest : List Term) (last one : Term) → all ≡ rest ++ last ∷ [] →
     made ≡ rest ++ one ∷ [] →
@@ -77,6 +66,7 @@ closed_last n v all made rest last one taken put is =
     ap (map plain_term) put
     ∙ map-append plain_term rest (one ∷ [])
     ∙ ap (λ t. map plain_term rest ++ t ∷ []) is
-    ∙ sym (close-append n v (map plain_term rest) (plain_term last))
+    ∙ sym (close-is n v (map plain_term rest ++ plain_term last ∷ [])
+    ∙ last-append (λ t. product t (closing_term n v)) (map plain_term rest) (plain_term last))
     ∙ ap (close_last n v) (sym (map-append plain_term rest (last ∷ [])))
     ∙ ap (λ ts. close_last n v (map plain_term ts)) (sym taken)

@@ -1,18 +1,12 @@
 -- The passes of a formula do what it does, in its operations.
-use Rattle.std.proofs.Common.{◌≡◌, ◌*◌, arith, refl, ◌∙◌, []}
+use Rattle.sigma_lower.proofs.Words.{◌≡◌, ◌*◌, arith, refl, ◌∙◌, [], most, merge_keeps, work_cost, operations, term_of}
+use Rattle.sigma_lower.proofs.Words.{size_of, shaped_size, size_is_size}
 use Rattle.sigma_spl.proofs.Counting.{merge_counts}
 use Rattle.sigma_spl.proofs.Limited.{merge_limits}
-use Rattle.sigma_spl.specs.Merge.{most}
-use Rattle.sigma_spl.proofs.Keeps.{merge_keeps}
 use Rattle.sigma_lower.specs.Compiled.{FormulasCompile}
-use Rattle.sigma_spl.specs.Shared.Costs.{work_cost}
-use Rattle.sigma_lower.specs.Operations.{operations}
-use Rattle.sigma_lower.specs.Terms.{term_of}
 use Rattle.sigma_lower.proofs.Counted.{lower_counts}
 use Rattle.sigma_lower.proofs.Lowers.{lowers}
 use Rattle.sigma_lower.proofs.Several.{term-several}
-use Rattle.spl_ast.specs.Formula.{size_of}
-use Rattle.spl_ast.proofs.Vectors.{shaped_size, size_is_size}
 
 pub formulas_compile : FormulasCompile
 formulas_compile m f positive shaped =

@@ -1,34 +1,21 @@
 -- The terms of a formula for lanes have its operations: each processor has its share.
-use Rattle.std.proofs.Common.{◌≡◌, ℕ, ◌+◌, ◌*◌, ◌/◌, ◌%◌, ◌<◌, ◌==◌, Bool, true, false, arith, refl, sym, ap, ap₂, ◌∙◌}
-use Rattle.std.proofs.Common.{List, [], ◌∷◌, ◌++◌, subst, if◌then◌else◌}
-use Rattle.std.specs.Prelude.{All, map, Option, None, Some}
-use Rattle.std.proofs.Math.Nat.{mul-div_right, zero-div}
-use Rattle.std.proofs.lemmas.List.Elements.{All-head, All-tail}
-use Rattle.smp_rewrite.specs.Fits.{CanShareLayout}
-use Rattle.sigma_spl.specs.Shared.Costs.{work_cost}
-use Rattle.operators.specs.declared.target.Target.{Target}
-use Rattle.sigma_spl.specs.Counts.{term_cost}
+use Rattle.sigma_lower.proofs.Words.{◌≡◌, ℕ, ◌+◌, ◌*◌, ◌/◌, ◌%◌, ◌<◌, ◌==◌, Bool, true, false, arith, refl, sym, ap}
+use Rattle.sigma_lower.proofs.Words.{ap₂, ◌∙◌, List, [], ◌∷◌, ◌++◌, subst, if◌then◌else◌, All, map, Option, None, Some}
+use Rattle.sigma_lower.proofs.Words.{mul-div_right, All-head, All-tail, CanShareLayout, work_cost, Target}
+use Rattle.sigma_lower.proofs.Words.{closed_phases, embed, phase_term, IsVecOf, lowered_core, factor_term, smp_of}
+use Rattle.sigma_lower.proofs.Words.{within, core_size, PlainCore, piece, twiddles, Blocks, Columns, Path, size_under}
+use Rattle.sigma_lower.proofs.Words.{copies_of, size_under-copies, HasLanes, vec_of, PlainFactor, lanes, diagonals}
+use Rattle.sigma_lower.proofs.Words.{move_before, move_after, PlainVec, vec_shaped, term_cost, sigma_of, whole_sigma}
+use Rattle.sigma_lower.proofs.Words.{after_core, IsDiagonal, copies-within}
+use Rattle.std.proofs.Common.{add-zero}
+use Rattle.std.proofs.Math.Nat.{zero-div}
 use Rattle.sigma_spl.specs.Term.{PlainTerm}
-use Rattle.sigma_lower.specs.Merged.{closed_phases, phase_costs, sigma_of, whole_sigma}
-use Rattle.sigma_lower.specs.Shared.{embed, phase_term}
-use Rattle.sigma_lower.specs.TreeTerms.Good.{IsVecOf}
-use Rattle.sigma_lower.specs.TreeTerms.Term.{lowered_core, after_core, factor_term}
-use Rattle.smp_rewrite.specs.Cut.{smp_of}
-use Rattle.smp_rewrite.specs.Laws.{HasEqualParts, IsDiagonal, IsPermutation}
-use Rattle.smp_rewrite.specs.Smp.{within}
-use Rattle.smp_rewrite.proofs.Tensors.{copies-within}
+use Rattle.sigma_lower.specs.Merged.{phase_costs}
+use Rattle.smp_rewrite.specs.Laws.{HasEqualParts, IsPermutation}
 use Rattle.smp_rewrite.specs.LayoutSteps.Whole.{Whole, closing_cost}
-use Rattle.smp_rewrite.specs.LayoutSteps.Meaning.{core_size}
-use Rattle.smp_rewrite.specs.LayoutSteps.Step.{PlainCore, piece, turns, twiddles, thomas_in, thomas_out, core_cost}
-use Rattle.operators.specs.declared.tensor_paths.Tensor.TheVariants.{Blocks, Columns}
-use Rattle.operators.specs.TensorPaths.Path.{Path, size_under, copies_of}
-use Rattle.operators.proofs.TensorPaths.Under.{size_under-copies}
+use Rattle.smp_rewrite.specs.LayoutSteps.Step.{core_cost}
 use Rattle.tree_model.proofs.Splits.{product_div}
-use Rattle.vec_rewrite.specs.Laws.{HasLanes}
-use Rattle.vec_rewrite.specs.Turning.{vec_of}
-use Rattle.vec_rewrite.specs.Vectors.{PlainFactor, lanes, diagonals, move_before, move_after, tiles, PlainVec, share_of}
-use Rattle.vec_rewrite.specs.Vectors.{shares_in, vec_shares}
-use Rattle.vec_rewrite.proofs.LaneShapes.{vec_shaped}
+use Rattle.vec_rewrite.specs.Vectors.{tiles, share_of, shares_in, vec_shares}
 use Rattle.vec_rewrite.proofs.LaneShares.{shares_in-append}
 use Rattle.sigma_lower.proofs.SharedTrees.{all-left, all-right}
 
@@ -50,13 +37,11 @@ lane-cost weight c p v path (piece t) size = ap (λ a. a * work_cost weight c.mo
   where
     grouped : (p v k x : ℕ) → p * (v * k) * x ≡ p * (v * (k * x))
     grouped p v k x = omega arith
-lane-cost weight c p v path (turns r s) size = omega arith
 lane-cost weight c p v path (twiddles r s w) size = ap (λ n. weight * n) (sym (ap (λ n. p * (v * n)) (sym (size_under-copies path (r * s))) ∙ size)) ∙ grouped weight p v (copies_of path) (r * s)
   where
     grouped : (w p v k n : ℕ) → w * (p * (v * (k * n))) ≡ p * (v * (k * (w * n)))
     grouped w p v k n = omega arith
-lane-cost weight c p v path (thomas_in r s) size = omega arith
-lane-cost weight c p v path (thomas_out r s) size = omega arith
+lane-cost weight c p v path _ size = omega arith
 
 -- a diagonal that the processors share
 share-exact : (p w n : ℕ) → 0 < p → n % p ≡ 0 → p * (w * n / p) ≡ w * n
@@ -70,33 +55,26 @@ share-exact p w n positive rest =
 diagonal-cost : (weight : ℕ) (c : Target) (p : ℕ) (path : Path) (k : PlainCore) → 0 < p →
     size_under path (core_size k) ≡ c.size → IsDiagonal k → c.size % p ≡ 0 →
     cost_in weight c (embed (lowered_core path k)) ≡ p * (copies_of path * core_cost weight c.modulus k / p)
-diagonal-cost weight c p path (piece t) positive size is rest = absurd is
-diagonal-cost weight c p path (turns r s) positive size is rest = absurd is
 diagonal-cost weight c p path (twiddles r s w) positive size is rest =
     let all : copies_of path * (weight * (r * s)) ≡ weight * c.size = turned (copies_of path) weight (r * s) ∙ ap (λ n. weight * n) (sym (size_under-copies path (r * s)) ∙ size) in
     sym (ap (λ n. p * (n / p)) all ∙ share-exact p weight c.size positive rest)
   where
     turned : (k w n : ℕ) → k * (w * n) ≡ w * (k * n)
     turned k w n = omega arith
-diagonal-cost weight c p path (thomas_in r s) positive size is rest = absurd is
-diagonal-cost weight c p path (thomas_out r s) positive size is rest = absurd is
+diagonal-cost weight c p path _ positive size is rest = absurd is
 
 -- permutations
 before-cost : (weight : ℕ) (c : Target) (p : ℕ) (path : Path) (k : PlainCore) → IsPermutation k →
     cost_in weight c (embed (lowered_core path k)) ≡ p * 0
 before-cost weight c p path (piece t) is = absurd is
-before-cost weight c p path (turns r s) is = omega arith
 before-cost weight c p path (twiddles r s w) is = absurd is
-before-cost weight c p path (thomas_in r s) is = omega arith
-before-cost weight c p path (thomas_out r s) is = omega arith
+before-cost weight c p path _ is = omega arith
 
 after-cost : (weight : ℕ) (c : Target) (p : ℕ) (path : Path) (k : PlainCore) → IsPermutation k →
     cost_in weight c (embed (after_core path k)) ≡ p * 0
 after-cost weight c p path (piece t) is = absurd is
-after-cost weight c p path (turns r s) is = omega arith
 after-cost weight c p path (twiddles r s w) is = absurd is
-after-cost weight c p path (thomas_in r s) is = omega arith
-after-cost weight c p path (thomas_out r s) is = omega arith
+after-cost weight c p path _ is = omega arith
 
 factor-cost : (weight : ℕ) (c : Target) (p v : ℕ) (f : PlainFactor) → 0 < p → HasLanes c.size p v f →
     cost_in weight c (embed (factor_term p v f)) ≡ p * share_of weight c.modulus p v f
@@ -123,23 +101,11 @@ phase-cost weight c p v (f ∷ fs) positive h =
     shared p a b = omega arith
 
 -- the products at the end, of which each processor has s
-none-more : (p a b s : ℕ) → 0 ≡ p * s → p * (a + b) ≡ p * (a + (b + s))
-none-more p a b s e =
-    let before : p * (a + b) ≡ p * a + p * b = omega arith in
-    let after : p * (a + (b + s)) ≡ p * a + p * b + p * s = omega arith in
-    omega (arith, before, after, e)
+last-more : (p b s e : ℕ) → e ≡ p * s → p * b + e ≡ p * (b + s)
+last-more p b s e is = let after : p * (b + s) ≡ p * b + p * s = omega arith in omega (arith, after, is)
 
-some-more : (p a b s e : ℕ) → e ≡ p * s → p * (a + b) + e ≡ p * (a + (b + s))
-some-more p a b s e is =
-    let before : p * (a + b) ≡ p * a + p * b = omega arith in
-    let after : p * (a + (b + s)) ≡ p * a + p * b + p * s = omega arith in
-    omega (arith, before, after, is)
-
-none-last : (p b s : ℕ) → 0 ≡ p * s → p * b ≡ p * (b + s)
-none-last p b s e = let after : p * (b + s) ≡ p * b + p * s = omega arith in omega (arith, after, e)
-
-some-last : (p b s e : ℕ) → e ≡ p * s → p * b + e ≡ p * (b + s)
-some-last p b s e is = let after : p * (b + s) ≡ p * b + p * s = omega arith in omega (arith, after, is)
+both-more : (p a b s e : ℕ) → e ≡ p * s → p * (a + b) + e ≡ p * (a + (b + s))
+both-more p a b s e is = last-more p (a + b) s e is ∙ ap (λ n. p * n) (omega arith)
 
 module _ (weight : ℕ) (c : Target) (p v : ℕ) (first second : List PlainFactor) where
   abbrev shares : List PlainFactor → ℕ
@@ -159,16 +125,16 @@ module _ (weight : ℕ) (c : Target) (p v : ℕ) (first second : List PlainFacto
   phases-cost true None s all h k e =
       ap (λ x. x ∷ [])
       (all ∙ ap (λ n. p * n) (shares_in-append weight c.modulus p v first second)
-      ∙ none-more p (shares first) (shares second) s e)
+      ∙ sym (add-zero _) ∙ both-more p (shares first) (shares second) s 0 e)
   phases-cost true (Some u) s all h k e =
       ap (λ x. x ∷ [])
       (ap (λ x. x + weight * c.size)
       (all ∙ ap (λ n. p * n) (shares_in-append weight c.modulus p v first second))
-      ∙ some-more p (shares first) (shares second) s (weight * c.size) e)
-  phases-cost false None s all h k e = ap₂ (λ x y. x ∷ y ∷ []) h (k ∙ none-last p (shares second) s e)
+      ∙ both-more p (shares first) (shares second) s (weight * c.size) e)
+  phases-cost false None s all h k e = ap₂ (λ x y. x ∷ y ∷ []) h (k ∙ sym (add-zero _) ∙ last-more p (shares second) s 0 e)
   phases-cost false (Some u) s all h k e =
       ap₂ (λ x y. x ∷ y ∷ []) h
-      (ap (λ x. x + weight * c.size) k ∙ some-last p (shares second) s (weight * c.size) e)
+      (ap (λ x. x + weight * c.size) k ∙ last-more p (shares second) s (weight * c.size) e)
 
 -- the products at the end, of which each processor has an equal part
 closing-exact : (weight n p : ℕ) (o : Option ℕ) → 0 < p → HasEqualParts n p o →

@@ -1,34 +1,19 @@
 -- The operations of the term of a formula.
-use Rattle.std.proofs.Common.{◌≡◌, ℕ, zero, suc, ◌+◌, ◌-◌, ◌*◌, ◌^◌, ◌<◌, arith, refl, sym, ap, ap₂, ◌∙◌, [], ◌∷◌, ◌++◌}
-use Rattle.std.proofs.Common.{length, inl, inr}
-use Rattle.std.proofs.Math.Nat.{pow-succ'}
-use Rattle.std.proofs.lemmas.Bool.{cases_eq, cases_lt}
-use Rattle.std.proofs.lemmas.Bool.Decides.{nat_tests}
+use Rattle.sigma_lower.proofs.Words.{chosen, is-one, ◌==◌, ◌≡◌, ℕ, zero, suc, ◌+◌, ◌-◌, ◌*◌, ◌^◌, ◌<◌, arith, refl, sym}
+use Rattle.sigma_lower.proofs.Words.{ap, ap₂, ◌∙◌, [], ◌∷◌, ◌++◌, length, inl, inr, pow-succ', cases_lt, nat_tests, Wht}
+use Rattle.sigma_lower.proofs.Words.{IsPowerOfTwo, work_cost, operations, one_more, halvings, hadamard_term}
+use Rattle.sigma_lower.proofs.Words.{fourier_term, term_of, Formula, Fourier, Hadamard, Twiddles, Diagonal, Product}
+use Rattle.sigma_lower.proofs.Words.{TensorLeft, TensorRight, DirectSum, Pending, size_of, IsShaped, Tensor, Blocks}
+use Rattle.sigma_lower.proofs.Words.{Columns, Path, count_of, copies_of, size_under, size_under-copies, leaf, term_cost}
+use Rattle.sigma_lower.proofs.Words.{copies_of-push}
 use Rattle.tree_model.specs.KernelCosts.{kernel_cost, product_cost}
-use Rattle.matrix_meaning.specs.declared.Kind.TheVariants.{Wht}
-use Rattle.matrix_meaning.specs.Kind.{IsPowerOfTwo}
-use Rattle.sigma_spl.specs.Counts.{term_cost}
-use Rattle.sigma_spl.specs.Shared.Costs.{work_cost}
-use Rattle.sigma_lower.specs.Operations.{operations}
-use Rattle.sigma_lower.specs.Terms.{one_more, halvings, hadamard_term, fourier_term, term_of}
 use Rattle.sigma_lower.proofs.Lowers.{halvings-power, power-above}
 use Rattle.sigma_lower.proofs.Parts.{size-more}
-use Rattle.spl_ast.specs.Formula.{Formula, Identity, Fourier, Hadamard, Twiddles, Diagonal, Stride, Permutation}
-use Rattle.spl_ast.specs.Formula.{GoodThomasIn, GoodThomasOut, Product, TensorLeft, TensorRight, DirectSum, Pending}
-use Rattle.spl_ast.specs.Formula.{size_of}
-use Rattle.spl_ast.specs.Shape.{IsShaped}
-use Rattle.operators.specs.declared.tensor_paths.Tensor.{Tensor}
-use Rattle.operators.specs.declared.tensor_paths.Tensor.TheVariants.{Blocks, Columns}
-use Rattle.operators.specs.TensorPaths.Path.{Path, count_of, copies_of, size_under}
-use Rattle.operators.proofs.TensorPaths.Under.{copies_of-push, size_under-copies}
-use Rattle.tree_model.specs.Breakdown.{leaf}
 
 copies-more : (path : Path) (t : Tensor) → copies_of (one_more path t) ≡ copies_of path * count_of t
 copies-more path t =
-    elim (cases_eq (count_of t) 1) [
-      | inl one ↦ let is : one_more path t ≡ path = grind (arith, nat_tests) in ap copies_of is ∙ omega (arith, ap (λ c. copies_of path * c) one)
-      | inr several ↦ let is : one_more path t ≡ path ++ t ∷ [] = grind (arith, nat_tests) in ap copies_of is ∙ copies_of-push path t
-    ]
+    chosen (λ p. copies_of p ≡ copies_of path * count_of t) (count_of t == 1) path (path ++ t ∷ [])
+    (λ one. omega (arith, ap (λ c. copies_of path * c) (is-one (count_of t) one))) (copies_of-push path t)
 
 -- ---- WHT
 
@@ -72,7 +57,6 @@ weighted-items weight n c k is = ap (λ x. weight * x) is ∙ omega arith
 
 lower-cost : (weight m n : ℕ) (path : Path) (f : Formula) → 0 < m → IsShaped f → n ≡ size_under path (size_of f) →
     term_cost weight (work_cost weight m) n (term_of m path f) ≡ copies_of path * operations weight m f
-lower-cost weight m n path (Identity k) positive shaped is = omega arith
 lower-cost weight m n path (Fourier k w) positive shaped is = fourier-cost weight m path n k w
 lower-cost weight m n path (Hadamard k) positive shaped is = power shaped.1 where
   power : IsPowerOfTwo k → term_cost weight (work_cost weight m) n (hadamard_term path (halvings k k))
@@ -82,10 +66,6 @@ lower-cost weight m n path (Hadamard k) positive shaped is = power shaped.1 wher
       ap (λ z. term_cost weight (work_cost weight m) n (hadamard_term path z)) steps ∙ hadamard-cost weight m n path e ∙ ap₂ (λ a b. copies_of path * (a * b)) (sym whole) (sym steps)
 lower-cost weight m n path (Twiddles k s w) positive shaped is = weighted-items weight n (copies_of path) k (is ∙ size_under-copies path k)
 lower-cost weight m n path (Diagonal c) positive shaped is = weighted-items weight n (copies_of path) (length c) (is ∙ size_under-copies path (length c))
-lower-cost weight m n path (Stride k r) positive shaped is = omega arith
-lower-cost weight m n path (Permutation k) positive shaped is = omega arith
-lower-cost weight m n path (GoodThomasIn r s) positive shaped is = omega arith
-lower-cost weight m n path (GoodThomasOut r s) positive shaped is = omega arith
 lower-cost weight m n path (Product a b) positive shaped is =
     let first = lower-cost weight m n path a positive shaped.0 is in
     let second = lower-cost weight m n path b positive shaped.1 (is ∙ ap (size_under path) shaped.2) in
@@ -101,6 +81,7 @@ lower-cost weight m n path (DirectSum a b) positive shaped is =
       one : (x : ℕ) → 1 * x ≡ x
       one x = omega arith
 lower-cost weight m n path (Pending a) positive shaped is = lower-cost weight m n path a positive shaped is
+lower-cost weight m n path _ positive shaped is = omega arith
 
 -- for each copy under the path
 pub lower_counts : (weight m : ℕ) (path : Path) (f : Formula) → 0 < m → IsShaped f →

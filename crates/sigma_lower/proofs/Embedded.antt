@@ -1,39 +1,56 @@
 -- The terms of trees are good terms, which do what they did.
-use Rattle.std.proofs.Common.{◌≡◌, ℕ, ◌*◌, ◌<◌, ◌≤◌, arith, refl, sym, ap, ap₂, ◌∙◌, List, subst}
-use Rattle.index_fn.specs.Mapping.{Mapping, Strided, ThomasIn, ThomasOut, ThomasBack, at}
-use Rattle.operators.specs.declared.target.Target.{Target}
-use Rattle.sigma_lower.specs.Machine.{IsMachine}
-use Rattle.operators.specs.Operator.{gather}
-use Rattle.sigma_spl.specs.Good.{IsMove, IsGoodTerm, IsVector, AreBlocks}
-use Rattle.sigma_spl.specs.Merge.{unit_below, back_of}
-use Rattle.sigma_spl.specs.Term.{scat, nest, term_on}
-use Rattle.sigma_spl.specs.Work.{tile}
-use Rattle.sigma_spl.proofs.Keeps.{scatter-same}
-use Rattle.sigma_spl.proofs.Nests.{moves-no-words}
-use Rattle.sigma_lower.specs.Shared.{embed}
-use Rattle.sigma_lower.specs.Trees.{core_term}
-use Rattle.sigma_lower.proofs.Moves.{back-wrapped, strided-move, in-move, out-move}
+use Rattle.sigma_lower.proofs.Words.{◌≡◌, ℕ, ◌*◌, ◌<◌, ◌≤◌, arith, refl, sym, ap, ap₂, ◌∙◌, List, subst, Mapping}
+use Rattle.sigma_lower.proofs.Words.{Strided, ThomasIn, ThomasOut, ThomasBack, at, Target, IsMachine, gather, IsMove}
+use Rattle.sigma_lower.proofs.Words.{IsGoodTerm, IsVector, AreBlocks, unit_below, back_of, term_on, tile}
+use Rattle.sigma_lower.proofs.Words.{moves-no-words, embed, core_term, IsGoodCore, IsGood, lowered_core, factor_term}
+use Rattle.sigma_lower.proofs.Words.{wrapped, within, core_size, step_on, PlainCore, piece, turns, thomas_in}
+use Rattle.sigma_lower.proofs.Words.{thomas_out, PlainStep, Blocks, Columns, Path, copies_of, size_under}
+use Rattle.sigma_lower.proofs.Words.{size_under-copies, PlainFactor, lanes, diagonals, move_before, move_after}
+use Rattle.sigma_lower.proofs.Words.{factor_step, HasLanes, ◌+◌, ◌/◌, ◌%◌, div-add-mod', scatter-same, IsDiagonal}
+use Rattle.sigma_lower.proofs.Words.{blocks-within, MovesVectors}
+use Rattle.sigma_spl.specs.Term.{scat, nest}
+use Rattle.sigma_lower.proofs.Moves.{back-wrapped, strided-move, in-move, out-move, move-wrapped}
 use Rattle.sigma_lower.proofs.Parts.{tile-under}
 use Rattle.sigma_lower.proofs.Trees.{piece-nests, core-lowers, flip}
-use Rattle.sigma_lower.proofs.Vectors.{laned-move}
-use Rattle.sigma_lower.proofs.TreeTerms.Vectors.{HasVectors, vectors-blocks, vectors-columns}
-use Rattle.sigma_lower.specs.TreeTerms.Good.{IsGoodCore, IsGood}
-use Rattle.sigma_lower.specs.TreeTerms.Term as lowered
-use Rattle.sigma_lower.specs.TreeTerms.Term.{lowered_core, factor_term}
-use Rattle.sigma_lower.specs.TreeTerms.Wrapped.{wrapped}
+use Rattle.sigma_lower.proofs.TreeTerms.Vectors.{HasVectors, vectors-blocks, vectors-columns, KeepsVectors}
+use Rattle.sigma_lower.proofs.TreeTerms.Vectors.{keeps-wrapped}
 use Rattle.sigma_lower.proofs.TreeTerms.Lowering.{factor_on, part-le}
 use Rattle.sigma_lower.proofs.TreeTerms.Permuted.{gather-under}
-use Rattle.smp_rewrite.specs.Smp.{within}
-use Rattle.smp_rewrite.specs.Laws.{IsDiagonal}
-use Rattle.smp_rewrite.specs.LayoutSteps.Meaning.{core_size, step_on}
-use Rattle.smp_rewrite.specs.LayoutSteps.Step.{PlainCore, piece, turns, thomas_in, thomas_out, PlainStep}
+use Rattle.vec_rewrite.specs.Vectors.{tiles}
+use Rattle.std.proofs.lemmas.Nat.{mod-mul-add}
+use Rattle.sigma_lower.specs.TreeTerms.Term as lowered
 use Rattle.smp_rewrite.specs.LayoutSteps.Step as steps
-use Rattle.operators.specs.declared.tensor_paths.Tensor.TheVariants.{Blocks, Columns}
-use Rattle.operators.specs.TensorPaths.Path.{Path, copies_of, size_under}
-use Rattle.operators.proofs.TensorPaths.Under.{size_under-copies}
-use Rattle.vec_rewrite.specs.Vectors.{PlainFactor, lanes, diagonals, move_before, move_after, tiles, factor_step}
-use Rattle.vec_rewrite.specs.Laws.{HasLanes}
-use Rattle.smp_rewrite.proofs.Tensors.{blocks-within}
+
+-- ---- permutations under tensors move whole vectors, where the first columns are a multiple of the lanes
+
+pub moves-vectors : (v : ℕ) (f : Mapping) → KeepsVectors v f → MovesVectors v (at f)
+moves-vectors v f h =
+    record {
+      together = λ i j whole below.
+          let place : i ≡ i / v * v = sym (div-add-mod' i v) ∙ omega (arith, whole) in
+          let to = h (i / v) in
+          let first : i ≡ i / v * v + 0 = omega (arith, place) in
+          let here : at f i ≡ to.0 * v + 0 = ap (at f) first ∙ to.1 0 (omega (arith, below)) in
+          ap (λ k. at f (k + j)) place ∙ to.1 j below ∙ omega (arith, here);
+      begins = λ i whole some.
+          let place : i ≡ i / v * v = sym (div-add-mod' i v) ∙ omega (arith, whole) in
+          let first : i ≡ i / v * v + 0 = omega (arith, place) in
+          let to = h (i / v) in
+          ap (λ k. k % v) (ap (at f) first ∙ to.1 0 some) ∙ mod-mul-add to.0 v 0 some;
+    }
+
+-- a permutation under tensors that move vectors
+pub laned-move : (v : ℕ) (path : Path) (n : ℕ) (f : Mapping) → 0 < size_under path n → HasVectors v path →
+    IsMove 0 n f → IsMove v (size_under path n) (wrapped path n f)
+laned-move v path n f positive vectors h =
+    let all = move-wrapped path n f positive h in
+    record {
+      there = all.there;
+      back = all.back;
+      permutes = all.permutes;
+      vectors = moves-vectors v (wrapped path n f) (keeps-wrapped v path n f vectors);
+      back_vectors = subst (λ g. MovesVectors v (at g)) (sym (back-wrapped path n f)) (moves-vectors v (wrapped path n (back_of f)) (keeps-wrapped v path n (back_of f) vectors));
+    }
 
 -- The term of a factor is good, and does what it did
 pub record Embeds (h : Target) (p v : ℕ) (f : PlainFactor) : Type 0 where
@@ -51,24 +68,17 @@ MovesBy v path (thomas_out r s) = HasVectors v path
 
 vectors-move : (v : ℕ) (path : Path) (k : PlainCore) → HasVectors v path → MovesBy v path k
 vectors-move v path (piece t) h = tt
-vectors-move v path (turns r s) h = h
 vectors-move v path (steps.twiddles r s w) h = tt
-vectors-move v path (thomas_in r s) h = h
-vectors-move v path (thomas_out r s) h = h
+vectors-move v path _ h = h
 
 diagonal-moves : (v : ℕ) (path : Path) (k : PlainCore) → IsDiagonal k → MovesBy v path k
 diagonal-moves v path (piece t) h = tt
-diagonal-moves v path (turns r s) h = absurd h
 diagonal-moves v path (steps.twiddles r s w) h = tt
-diagonal-moves v path (thomas_in r s) h = absurd h
-diagonal-moves v path (thomas_out r s) h = absurd h
+diagonal-moves v path _ h = absurd h
 
 pub embed-core : (path : Path) (k : PlainCore) → embed (lowered_core path k) ≡ core_term path k
 embed-core path (piece t) = refl
-embed-core path (turns r s) = refl
-embed-core path (steps.twiddles r s w) = refl
-embed-core path (thomas_in r s) = refl
-embed-core path (thomas_out r s) = refl
+embed-core path _ = refl
 
 -- a scatter by what undoes a permutation
 scat-good : (v : ℕ) (path : Path) (n : ℕ) (f : Mapping) → 0 < size_under path n → HasVectors v path →
@@ -164,11 +174,10 @@ tile-embeds c p v path valid blocks h =
 
 after-embeds : (c : Target) (p v : ℕ) (path : Path) (k : PlainCore) → IsMachine c →
     IsGood c.size (factor_step p v (move_after (steps.step path k))) → Embeds c p v (move_after (steps.step path k))
-after-embeds c p v path (piece t) valid h = core-embeds c p v (move_after (steps.step path (piece t))) valid h refl tt
 after-embeds c p v path (turns r s) valid h = turned-embeds c p v path r s valid h
-after-embeds c p v path (steps.twiddles r s w) valid h = core-embeds c p v (move_after (steps.step path (steps.twiddles r s w))) valid h refl tt
-after-embeds c p v path (thomas_in r s) valid h = core-embeds c p v (move_after (steps.step path (thomas_in r s))) valid h refl (vectors-columns v path)
-after-embeds c p v path (thomas_out r s) valid h = core-embeds c p v (move_after (steps.step path (thomas_out r s))) valid h refl (vectors-columns v path)
+after-embeds c p v path k valid h =
+    core-embeds c p v (move_after (steps.step path k)) valid h refl
+    (vectors-move v (within (Columns v) path) k (vectors-columns v path))
 
 pub factors_embed : (h : Target) (p v : ℕ) (f : PlainFactor) → IsMachine h → HasLanes h.size p v f →
     IsGood h.size (factor_step p v f) → Embeds h p v f

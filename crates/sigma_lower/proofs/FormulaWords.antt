@@ -1,26 +1,17 @@
 -- The numbers of a formula's term are words.
-use Rattle.std.proofs.Common.{◌≡◌, ℕ, zero, suc, ◌*◌, ◌/◌, ◌^◌, ◌≤◌, arith, refl, sym, ap, ◌∙◌, [], ◌∷◌, ◌++◌, inl, inr}
-use Rattle.std.proofs.Common.{subst, mul_comm}
-use Rattle.std.proofs.lemmas.Bool.{cases_lt, lt-ltb}
-use Rattle.std.proofs.lemmas.Bool.Decides.{nat_tests}
-use Rattle.index_fn.specs.Mapping.{Strided, ThomasIn, ThomasOut}
-use Rattle.matrix_meaning.specs.declared.Kind.TheVariants.{Dft}
+use Rattle.sigma_lower.proofs.Words.{chosen, nat_le}
+use Rattle.sigma_lower.proofs.Words.{◌≡◌, ℕ, zero, suc, ◌*◌, ◌/◌, ◌^◌, ◌≤◌, arith, refl, sym, ap, ◌∙◌, [], ◌∷◌, ◌++◌}
+use Rattle.sigma_lower.proofs.Words.{inl, inr, subst, mul_comm, cases_lt, nat_tests, Strided, ThomasIn, ThomasOut, Dft}
+use Rattle.sigma_lower.proofs.Words.{HasNumbers, kernel, horner, short, one_more, halvings, hadamard_term, fourier_term}
+use Rattle.sigma_lower.proofs.Words.{term_of, wrapped, Formula, Fourier, Hadamard, Stride}
+use Rattle.sigma_lower.proofs.Words.{GoodThomasIn, GoodThomasOut, Product, TensorLeft, TensorRight}
+use Rattle.sigma_lower.proofs.Words.{DirectSum, Pending, size_of, IsShaped, size_is_size, Blocks, Columns, Path}
+use Rattle.sigma_lower.proofs.Words.{size_under, lt-ltb, AreWords}
 use Rattle.sigma_spl.specs.Term.{nest}
-use Rattle.sigma_spl.specs.Words.{AreWords, HasNumbers}
-use Rattle.sigma_spl.specs.Work.{kernel, horner, short}
-use Rattle.sigma_lower.specs.Terms.{one_more, halvings, hadamard_term, fourier_term, term_of}
 use Rattle.sigma_lower.proofs.Lowers.{coprime}
 use Rattle.sigma_lower.proofs.Moves.{left_positive}
 use Rattle.sigma_lower.proofs.Numbers.{numbers-wrapped, strided-closed, in-closed, out-closed}
 use Rattle.sigma_lower.proofs.Parts.{size-more}
-use Rattle.sigma_lower.specs.TreeTerms.Wrapped.{wrapped}
-use Rattle.spl_ast.specs.Formula.{Formula, Identity, Fourier, Hadamard, Twiddles, Diagonal, Stride, Permutation}
-use Rattle.spl_ast.specs.Formula.{GoodThomasIn, GoodThomasOut, Product, TensorLeft, TensorRight, DirectSum, Pending}
-use Rattle.spl_ast.specs.Formula.{size_of}
-use Rattle.spl_ast.specs.Shape.{IsShaped}
-use Rattle.spl_ast.proofs.Vectors.{size_is_size}
-use Rattle.operators.specs.declared.tensor_paths.Tensor.TheVariants.{Blocks, Columns}
-use Rattle.operators.specs.TensorPaths.Path.{Path, size_under}
 
 hadamard-words : (n : ℕ) (path : Path) (k : ℕ) → AreWords n (hadamard_term path k)
 hadamard-words n path zero = tt
@@ -28,18 +19,13 @@ hadamard-words n path (suc k) = (hadamard-words n (path ++ Blocks 2 ∷ []) k, o
 
 fourier-words : (size : ℕ) (path : Path) (n w : ℕ) → n ≤ 1048576 → AreWords size (fourier_term path n w)
 fourier-words size path n w low =
-    elim (cases_lt 8 n) [
-      | inl long ↦ let is : fourier_term path n w ≡ nest path (horner w n) = grind (arith, nat_tests) in subst (AreWords size) (sym is) tt
-      | inr few ↦ let is : fourier_term path n w ≡ nest path (kernel (short Dft w n)) = grind (arith, nat_tests) in subst (AreWords size) (sym is) (omega (arith, low))
-    ]
+    chosen (AreWords size) (nat_le n 8) (nest path (kernel (short Dft w n))) (nest path (horner w n))
+    (λ few. omega (arith, low)) tt
 
 pub term-words : (m : ℕ) (path : Path) (f : Formula) → size_under path (size_of f) ≤ 1048576 → IsShaped f →
     AreWords (size_under path (size_of f)) (term_of m path f)
-term-words m path (Identity n) high shaped = tt
 term-words m path (Fourier n w) high shaped = let low = shaped.0.1 in fourier-words (size_under path n) path n w low
 term-words m path (Hadamard n) high shaped = hadamard-words (size_under path n) path (halvings n n)
-term-words m path (Twiddles n s w) high shaped = tt
-term-words m path (Diagonal c) high shaped = tt
 term-words m path (Stride n r) high shaped =
     let whole : r * (n / r) ≡ n = mul_comm r (n / r) ∙ shaped.2 in
     let count : 1 ≤ n / r = left_positive (n / r) r (omega (arith, shaped.2, shaped.0.0)) in
@@ -47,7 +33,6 @@ term-words m path (Stride n r) high shaped =
     let closed = strided-closed r (n / r) shaped.1.0 count small in
     let size : size_under path (r * (n / r)) ≡ size_under path n = ap (size_under path) whole in
     subst (λ z. HasNumbers z (wrapped path (r * (n / r)) (Strided r (n / r)))) size (numbers-wrapped path (r * (n / r)) (Strided r (n / r)) (omega (arith, size, high)) refl closed.0 closed.1)
-term-words m path (Permutation k) high shaped = tt
 term-words m path (GoodThomasIn r s) high shaped =
     let closed = in-closed r s (coprime r s shaped.1.first shaped.1.second shaped.1.coprime shaped.0.1) in
     numbers-wrapped path (r * s) (ThomasIn r s) high (let low = shaped.0.1 in lt-ltb (r * s) (2 ^ 32) (omega (arith, low))) closed.0 closed.1
@@ -65,3 +50,4 @@ term-words m path (TensorRight k a) high shaped =
     subst (λ z. AreWords z (term_of m (one_more path (Blocks k)) a)) size (term-words m (one_more path (Blocks k)) a (omega (arith, size, high)) shaped.1)
 term-words m path (DirectSum a b) high shaped = (term-words m [] a (size_is_size a shaped.0).1 shaped.0, term-words m [] b (size_is_size b shaped.1).1 shaped.1)
 term-words m path (Pending a) high shaped = term-words m path a high shaped
+term-words m path _ high shaped = tt

@@ -1,15 +1,10 @@
 -- Each phase of a layout has a loop, since it has a pass.
-use Rattle.std.proofs.Common.{◌≡◌, ℕ, ◌==◌, Bool, true, false, List, [], ◌∷◌, ◌++◌, refl, sym, subst}
-use Rattle.std.specs.Prelude.{map, reverse}
-use Rattle.std.proofs.lemmas.List.{reverse-append}
-use Rattle.operators.specs.declared.target.Target.{Target}
-use Rattle.sigma_spl.specs.Loops.{PlainLoop, HasLoop}
-use Rattle.sigma_spl.specs.Shared.Targets.{is_alone}
-use Rattle.sigma_lower.specs.Merged.{AllHaveLoops, PhasesHaveLoops}
-use Rattle.sigma_lower.specs.TreeLoops.Merge.{PlainPass, passes_of_terms, merged_phases}
-use Rattle.sigma_lower.specs.TreeLoops.Nests.{loop_of}
-use Rattle.sigma_lower.specs.TreeTerms.Root.{right_path}
-use Rattle.sigma_lower.specs.TreeTerms.Term.{PlainTerm, lowered_of}
+use Rattle.sigma_lower.proofs.Words.{◌≡◌, ℕ, ◌==◌, Bool, true, false, List, [], ◌∷◌, ◌++◌, refl, sym, subst, map}
+use Rattle.sigma_lower.proofs.Words.{reverse, reverse-append, Target, PlainLoop, HasLoop, is_alone, AllHaveLoops}
+use Rattle.sigma_lower.proofs.Words.{PlainPass, passes_of_terms, merged_phases, loop_of, right_path, PlainTerm}
+use Rattle.sigma_lower.proofs.Words.{lowered_of, chosen, RootHasParts, Layout, work, by, layout_size, Rule, Gt, Ct}
+use Rattle.sigma_lower.proofs.Words.{Split}
+use Rattle.sigma_lower.specs.Merged.{PhasesHaveLoops}
 use Rattle.sigma_lower.proofs.TreeLoops.LoopNests.{loops_listed}
 use Rattle.sigma_lower.proofs.TreeLoops.RootMerging.{root_merged}
 use Rattle.sigma_lower.proofs.TreeLoops.RootPasses.{if_lanes, left_pass, left_passes, right_passes, root_passes}
@@ -17,11 +12,6 @@ use Rattle.sigma_lower.proofs.TreeLoops.RootPasses.{tile_after, tile_before, tur
 use Rattle.sigma_lower.proofs.TreeLoops.TreePasses.{IsFull, full-append, full-at_last, full-mapped, full_passes}
 use Rattle.sigma_lower.proofs.TreeLoops.TreePasses.{layout_passes}
 use Rattle.sigma_lower.proofs.TreeLoops.Wholes.{plain_phases}
-use Rattle.sigma_spl.proofs.Walk.{chosen}
-use Rattle.smp_rewrite.specs.Fits.{RootHasParts}
-use Rattle.smp_rewrite.specs.LayoutSteps.Layout.{Layout, work, by, layout_size}
-use Rattle.tree_model.specs.declared.tree.Rule.{Rule}
-use Rattle.tree_model.specs.declared.tree.Rule.TheVariants.{Gt, Ct, Split, Dim}
 
 -- ---- from passes to loops
 
@@ -64,8 +54,7 @@ full-right c p v Ct w a b fits =
     let path = right_path p v (layout_size a) in
     let waiting = turned_waiting p v (layout_size a) (layout_size b) in
     full-at_last _ _ (full-front (layout_passes path waiting b) _ (full_passes path waiting b))
-full-right c p v Split w a b fits = full-split p v a b
-full-right c p v Dim w a b fits = full-split p v a b
+full-right c p v _ w a b fits = full-split p v a b
 
 root-full : (c : Target) (l : Layout) → RootHasParts c l → AllFull (root_passes c l)
 root-full c (work w) fits = absurd fits

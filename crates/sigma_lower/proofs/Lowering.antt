@@ -1,24 +1,11 @@
 -- Room for the paths of a formula, and the steps of a WHT.
-use Rattle.std.proofs.Common.{◌≡◌, ℕ, zero, suc, ◌*◌, ◌/◌, ◌^◌, ◌<◌, ◌≤◌, arith, refl, sym, ap, ◌∙◌, [], ◌∷◌, ◌++◌, inl}
-use Rattle.std.proofs.Common.{inr, subst, mul_comm}
-use Rattle.std.proofs.Math.Nat.{pow-succ'}
-use Rattle.std.proofs.lemmas.Bool.{cases_eq}
-use Rattle.std.proofs.lemmas.Bool.Decides.{nat_tests}
-use Rattle.matrix_meaning.specs.declared.Kind.TheVariants.{Wht}
-use Rattle.matrix_meaning.specs.Kind.{IsPowerOfTwo}
-use Rattle.sigma_spl.specs.Term.{same, nest, product}
-use Rattle.sigma_spl.specs.Work.{kernel, short}
-use Rattle.sigma_lower.specs.Terms.{one_more, halvings, hadamard_term}
+use Rattle.sigma_lower.proofs.Words.{chosen, is-one, ◌==◌, ◌≡◌, ℕ, zero, suc, ◌*◌, ◌/◌, ◌^◌, ◌<◌, ◌≤◌, arith, refl, sym}
+use Rattle.sigma_lower.proofs.Words.{ap, ◌∙◌, [], ◌∷◌, ◌++◌, subst, mul_comm, pow-succ', Wht, IsPowerOfTwo, same}
+use Rattle.sigma_lower.proofs.Words.{product, kernel, short, one_more, halvings, hadamard_term, Formula, Stride}
+use Rattle.sigma_lower.proofs.Words.{Product, TensorLeft, TensorRight, size_of, IsShaped, size_is_size, Tensor, Blocks}
+use Rattle.sigma_lower.proofs.Words.{Columns, Path, count_of, grown, size_under-push, HasRoom, grown-one}
+use Rattle.sigma_spl.specs.Term.{nest}
 use Rattle.sigma_lower.proofs.Lowers.{halvings-power, power-above}
-use Rattle.sigma_spl.specs.Room.{HasRoom}
-use Rattle.spl_ast.specs.Formula.{Formula, Stride, Product, TensorLeft, TensorRight, size_of}
-use Rattle.spl_ast.specs.Shape.{IsShaped}
-use Rattle.spl_ast.proofs.Vectors.{size_is_size}
-use Rattle.operators.specs.declared.tensor_paths.Tensor.{Tensor}
-use Rattle.operators.specs.declared.tensor_paths.Tensor.TheVariants.{Blocks, Columns}
-use Rattle.operators.specs.TensorPaths.Path.{Path, count_of, grown}
-use Rattle.operators.proofs.TensorPaths.Under.{size_under-push}
-use Rattle.smp_rewrite.proofs.Tensors.{grown-one}
 
 -- ---- room
 
@@ -28,10 +15,8 @@ room-push (u ∷ path) t n h small = (subst (λ z. grown u z < 2 ^ 64) (sym (siz
 
 room-more : (path : Path) (t : Tensor) (n : ℕ) → HasRoom path (grown t n) → n < 2 ^ 64 → HasRoom (one_more path t) n
 room-more path t n h small =
-    elim (cases_eq (count_of t) 1) [
-      | inl one ↦ let is : one_more path t ≡ path = grind (arith, nat_tests) in subst (λ p. HasRoom p n) (sym is) (subst (HasRoom path) (grown-one t n one) h)
-      | inr several ↦ let is : one_more path t ≡ path ++ t ∷ [] = grind (arith, nat_tests) in subst (λ p. HasRoom p n) (sym is) (room-push path t n h small)
-    ]
+    chosen (λ p. HasRoom p n) (count_of t == 1) path (path ++ t ∷ [])
+    (λ one. subst (HasRoom path) (grown-one t n (is-one (count_of t) one)) h) (room-push path t n h small)
 
 part-small : (a : Formula) → IsShaped a → size_of a < 2 ^ 64
 part-small a h = let size = (size_is_size a h).1 in omega (arith, size)

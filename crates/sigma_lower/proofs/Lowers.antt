@@ -1,51 +1,35 @@
 -- The term of a formula does what the formula does.
-use Rattle.std.proofs.Common.{◌≡◌, ℕ, zero, suc, ◌+◌, ◌*◌, ◌-◌, ◌/◌, ◌%◌, ◌<◌, ◌≤◌, ◌^◌, arith, refl, sym, ap, ap₂, ◌∙◌}
-use Rattle.std.proofs.Common.{List, [], ◌∷◌, ◌++◌, length, inl, inr, subst, mod-lt, mod-eq_of_lt, take, drop, mul_comm}
-use Rattle.std.proofs.Common.{length-append, length-drop, map}
-use Rattle.std.specs.Prelude.{slice_index, nat_lt, if◌then◌else◌}
+use Rattle.sigma_lower.proofs.Words.{chosen, nat_le, ◌≡◌, ℕ, zero, suc, ◌+◌, ◌*◌, ◌-◌, ◌/◌, ◌%◌, ◌<◌, ◌≤◌, ◌^◌, arith}
+use Rattle.sigma_lower.proofs.Words.{refl, sym, ap, ap₂, ◌∙◌, List, [], ◌∷◌, ◌++◌, length, inl, inr, subst, mod-lt}
+use Rattle.sigma_lower.proofs.Words.{take, drop, mul_comm, map, slice_index, if◌then◌else◌, pow-succ', cases_lt}
+use Rattle.sigma_lower.proofs.Words.{nat_tests, length-map, fill_by_all, Mapping, Strided, ThomasIn, ThomasOut, at}
+use Rattle.sigma_lower.proofs.Words.{Kind, Dft, Wht, transform, IsPowerOfTwo, gather, scale, on_blocks, on_columns}
+use Rattle.sigma_lower.proofs.Words.{stride, list_below-same, IsMove, IsGoodTerm, IsVector, term_on, kernel, horner}
+use Rattle.sigma_lower.proofs.Words.{short, vector-below, one_more, halvings, hadamard_term, fourier_term, term_of}
+use Rattle.sigma_lower.proofs.Words.{wrapped, Formula, Identity, Fourier, Hadamard, Twiddles, Diagonal, Stride}
+use Rattle.sigma_lower.proofs.Words.{Permutation, GoodThomasIn, GoodThomasOut, Product, TensorLeft, TensorRight}
+use Rattle.sigma_lower.proofs.Words.{DirectSum, Pending, size_of, IsShaped, shaped_size, Blocks, Columns, Path}
+use Rattle.sigma_lower.proofs.Words.{size_under, under, size_under-push, mod-eq_of_lt, length-append, nat_lt, entry_of}
+use Rattle.sigma_lower.proofs.Words.{Operator, list_below, under-vector, vector-fill, apply, under-push}
+use Rattle.std.proofs.Common.{length-drop}
 use Rattle.std.specs.Int.{IsGcd}
-use Rattle.std.proofs.Math.Nat.{pow-succ'}
 use Rattle.std.proofs.Math.Pow.{pow_pos}
-use Rattle.std.proofs.lemmas.Bool.{cases_lt}
-use Rattle.std.proofs.lemmas.Bool.Decides.{nat_tests}
 use Rattle.std.proofs.lemmas.Nat.{mul-mod_first}
-use Rattle.std.proofs.lemmas.List.{get_or-map, length-map, length-take-le, get_or-take, get_or-drop, get_or_append_left}
+use Rattle.std.proofs.lemmas.List.{get_or-map, length-take-le, get_or-take, get_or-drop, get_or_append_left}
 use Rattle.std.proofs.lemmas.List.{get_or-append_right}
-use Rattle.std.proofs.lemmas.List.FromFn.{fill_by_all}
-use Rattle.index_fn.specs.Mapping.{Mapping, Strided, ThomasIn, ThomasOut, at}
-use Rattle.matrix_meaning.specs.declared.Kind.{Kind}
-use Rattle.matrix_meaning.specs.declared.Kind.TheVariants.{Dft, Wht}
-use Rattle.matrix_meaning.specs.Kind.{transform, entry_of, IsPowerOfTwo}
 use Rattle.matrix_meaning.specs.Laws.{twiddle}
 use Rattle.matrix_meaning.proofs.WalshHadamard.{split}
-use Rattle.operators.specs.Operator.{Operator, gather, scale, on_blocks, on_columns, stride}
-use Rattle.operators.specs.Sum.{list_below}
-use Rattle.operators.proofs.Lists.{list_below-same}
 use Rattle.sigma_spl.specs.Copies.{both}
-use Rattle.sigma_spl.specs.Good.{IsMove, IsGoodTerm, IsVector}
 use Rattle.sigma_spl.specs.Nest.{values, twiddles}
-use Rattle.sigma_spl.specs.Term.{gath, diag, nest, term_on}
-use Rattle.sigma_spl.specs.Work.{kernel, horner, short}
+use Rattle.sigma_spl.specs.Term.{gath, diag, nest}
 use Rattle.sigma_spl.proofs.CopiesMerge.{low, high}
-use Rattle.sigma_spl.proofs.Keeps.{under-vector, under-none, vector-fill, both-equal, front, back, front-vector}
-use Rattle.sigma_spl.proofs.Keeps.{back-vector}
-use Rattle.sigma_spl.proofs.Walk.{vector-below}
-use Rattle.sigma_lower.specs.Terms.{one_more, halvings, hadamard_term, fourier_term, term_of}
+use Rattle.sigma_spl.proofs.Keeps.{under-none, both-equal, front, back, front-vector, back-vector}
 use Rattle.sigma_lower.proofs.Moves.{left_positive, move-wrapped, strided-move, in-move, out-move}
 use Rattle.sigma_lower.proofs.Parts.{transform-work, nest-lowers, move-lowers, diag-lowers, product-lowers, lowers-as}
 use Rattle.sigma_lower.proofs.Parts.{size-more, more-lowers, under-keeps, Lowers}
-use Rattle.sigma_lower.specs.TreeTerms.Wrapped.{wrapped}
 use Rattle.sigma_lower.proofs.TreeTerms.Lowering.{AreCoprime}
 use Rattle.sigma_lower.proofs.TreeTerms.Permuted.{gather-under}
-use Rattle.spl_ast.specs.Formula.{Formula, Identity, Fourier, Hadamard, Twiddles, Diagonal, Stride, Permutation}
-use Rattle.spl_ast.specs.Formula.{GoodThomasIn, GoodThomasOut, Product, TensorLeft, TensorRight, DirectSum, Pending}
-use Rattle.spl_ast.specs.Formula.{size_of}
-use Rattle.spl_ast.specs.Meaning.{apply}
-use Rattle.spl_ast.specs.Shape.{IsShaped}
-use Rattle.spl_ast.proofs.Vectors.{apply_vector, residue_at, vector_of, shaped_size}
-use Rattle.operators.specs.declared.tensor_paths.Tensor.TheVariants.{Blocks, Columns}
-use Rattle.operators.specs.TensorPaths.Path.{Path, size_under, under}
-use Rattle.operators.proofs.TensorPaths.Under.{size_under-push, under-push}
+use Rattle.spl_ast.proofs.Vectors.{apply_vector, residue_at, vector_of}
 
 -- ---- vectors
 
@@ -154,14 +138,10 @@ sum-on m k l a b x v p q =
 fourier-lowers : (m : ℕ) (path : Path) (n w : ℕ) → Lowers m (size_under path n) (fourier_term path n w)
     (under path n (transform Dft m n w))
 fourier-lowers m path n w =
-    elim (cases_lt 8 n) [
-      | inl long ↦
-          let is : fourier_term path n w ≡ nest path (horner w n) = grind (arith, nat_tests) in
-          subst (λ t. Lowers m (size_under path n) t (under path n (transform Dft m n w))) (sym is) (nest-lowers m path (horner w n) tt (transform-work Dft m n w))
-      | inr few ↦
-          let is : fourier_term path n w ≡ nest path (kernel (short Dft w n)) = grind (arith, nat_tests) in
-          subst (λ t. Lowers m (size_under path n) t (under path n (transform Dft m n w))) (sym is) (nest-lowers m path (kernel (short Dft w n)) tt (transform-work Dft m n w))
-    ]
+    chosen (λ t. Lowers m (size_under path n) t (under path n (transform Dft m n w))) (nat_le n 8)
+    (nest path (kernel (short Dft w n))) (nest path (horner w n))
+    (λ few. nest-lowers m path (kernel (short Dft w n)) tt (transform-work Dft m n w))
+    (nest-lowers m path (horner w n) tt (transform-work Dft m n w))
 
 -- a diagonal's values count modulo m
 residues-scale : (m : ℕ) (c y : List ℕ) → scale m (length c) (slice_index (map (λ v. v % m) c)) y ≡ scale m (length c)

@@ -1,20 +1,15 @@
 -- The permutations of formulas can be undone, under tensors too.
-use Rattle.std.proofs.Common.{◌≡◌, ℕ, ◌*◌, ◌<◌, ◌≤◌, arith, refl, sym, ap, [], ◌∷◌, subst, mod-lt, mul_comm}
-use Rattle.std.proofs.lemmas.Nat.{mul-lt}
-use Rattle.index_fn.specs.Mapping.{Mapping, Same, Strided, ThomasIn, ThomasOut, ThomasBack, Paired, at}
+use Rattle.sigma_lower.proofs.Words.{◌≡◌, ℕ, ◌*◌, ◌<◌, ◌≤◌, arith, refl, sym, ap, [], ◌∷◌, subst, mod-lt, mul_comm}
+use Rattle.sigma_lower.proofs.Words.{mul-lt, Mapping, Same, Strided, ThomasIn, ThomasOut, ThomasBack, at}
+use Rattle.sigma_lower.proofs.Words.{IsPermutationBelow, IsMove, moves-no-words, back_of, wrapped, unit_of, Blocks}
+use Rattle.sigma_lower.proofs.Words.{Columns, Path, size_under, Paired, AreInverses, inverse_of_s, inverse_of_r}
+use Rattle.sigma_lower.proofs.Words.{inverses_of}
 use Rattle.index_fn.specs.Inverse.{Undoes}
 use Rattle.index_fn.proofs.StepsBefore.{in_undoes, inverse_is}
-use Rattle.operators.specs.Loop.{IsPermutationBelow}
-use Rattle.sigma_spl.specs.Good.{IsFormed, IsMove}
-pub use Rattle.sigma_spl.proofs.Keeps.{left_positive, right_positive}
-use Rattle.sigma_spl.proofs.Nests.{moves-no-words}
-use Rattle.sigma_spl.specs.Merge.{back_of}
-use Rattle.ring_mod.proofs.Inverses.{AreInverses, inverse_of_s, inverse_of_r, inverses_of}
-use Rattle.sigma_lower.specs.TreeTerms.Wrapped.{wrapped, unit_of}
+use Rattle.sigma_spl.specs.Good.{IsFormed}
 use Rattle.sigma_lower.proofs.TreeTerms.Lowering.{AreCoprime, turns-permute, thomas_permutes, both_units}
 use Rattle.sigma_lower.proofs.TreeTerms.Permuted.{wrapped-permutes}
-use Rattle.operators.specs.declared.tensor_paths.Tensor.TheVariants.{Blocks, Columns}
-use Rattle.operators.specs.TensorPaths.Path.{Path, size_under}
+pub use Rattle.sigma_spl.proofs.Keeps.{left_positive, right_positive}
 
 -- ---- under tensors
 

@@ -1,16 +1,14 @@
 -- The numbers of permutations are words, under tensors too.
-use Rattle.std.proofs.Common.{◌≡◌, ℕ, ◌*◌, ◌≤◌, true, not, eqb, ◌&&◌, ◌||◌, arith, refl, sym, [], ◌∷◌, subst, mul_comm}
-use Rattle.std.proofs.lemmas.Bool.{and_from, eq-eqb, or_right}
-use Rattle.index_fn.specs.Mapping.{Mapping, Strided, ThomasIn, ThomasOut}
+use Rattle.sigma_lower.proofs.Words.{◌≡◌, ℕ, ◌*◌, ◌≤◌, true, not, ◌&&◌, arith, refl, sym, [], ◌∷◌, subst, mul_comm}
+use Rattle.sigma_lower.proofs.Words.{and_from, Mapping, Strided, ThomasIn, ThomasOut, back_of, HasNumbers, wrapped}
+use Rattle.sigma_lower.proofs.Words.{unit_of, Blocks, Columns, Path, size_under}
+use Rattle.std.proofs.Common.{eqb, ◌||◌}
+use Rattle.std.proofs.lemmas.Bool.{eq-eqb, or_right}
 use Rattle.index_fn.specs.Back.{HasBack, has_back, has_size}
-use Rattle.sigma_spl.specs.Merge.{back_of}
-use Rattle.sigma_spl.specs.Words.{HasNumbers, IsDefinedBelow}
+use Rattle.sigma_spl.specs.Words.{IsDefinedBelow}
 use Rattle.sigma_lower.proofs.Moves.{back-wrapped, strided-move, in-undoes, out-move}
-use Rattle.sigma_lower.specs.TreeTerms.Wrapped.{wrapped, unit_of}
 use Rattle.sigma_lower.proofs.TreeTerms.Closed.{IsClosed, wrapped-defined, thomas_in-closed, thomas_back-closed}
 use Rattle.sigma_lower.proofs.TreeTerms.Lowering.{AreCoprime, both_units}
-use Rattle.operators.specs.declared.tensor_paths.Tensor.TheVariants.{Blocks, Columns}
-use Rattle.operators.specs.TensorPaths.Path.{Path, size_under}
 
 -- ---- under tensors
 

@@ -1,34 +1,22 @@
 -- The terms of trees are in order: a scatter or a diagonal comes right after a loop, a diagonal after one that has none,
 -- and after tiles only one under no tensors.
-use Rattle.std.proofs.Common.{◌≡◌, ℕ, ◌*◌, ◌/◌, ◌==◌, Bool, true, false, List, [], ◌∷◌, ◌++◌, refl, sym, subst}
-use Rattle.std.proofs.Common.{if◌then◌else◌, None}
-use Rattle.std.specs.Prelude.{map, not, ◌&&◌}
-use Rattle.index_fn.specs.Mapping.{Mapping, Strided, ThomasIn}
-use Rattle.operators.specs.declared.target.Target.{Target}
-use Rattle.operators.specs.declared.tensor_paths.Tensor.TheVariants.{Columns}
-use Rattle.operators.specs.TensorPaths.Path.{Path, size_under}
-use Rattle.sigma_lower.specs.Order.{IsOrderedPhase, AllOrdered, TreesOrdered}
-use Rattle.sigma_lower.specs.Shared.{embed, phase_term}
-use Rattle.sigma_lower.specs.TreeTerms.Root.{left_core, left_path, left_terms, lines_dealt, lines_moved, right_path}
-use Rattle.sigma_lower.specs.TreeTerms.Root.{right_terms, root_terms, tile_path, vectors_grouped, vectors_turned}
-use Rattle.sigma_lower.specs.TreeTerms.Root.{whole_path}
-use Rattle.sigma_lower.specs.TreeTerms.Term.{PlainTerm, gath, scat, diag, nest, lowered, lowered_of}
-use Rattle.sigma_lower.specs.TreeTerms.Wrapped.{wrapped}
+use Rattle.sigma_lower.proofs.Words.{◌≡◌, ℕ, ◌*◌, ◌/◌, ◌==◌, Bool, true, false, List, [], ◌∷◌, ◌++◌, refl, sym, subst}
+use Rattle.sigma_lower.proofs.Words.{if◌then◌else◌, None, map, not, ◌&&◌, Mapping, Strided, ThomasIn, Target, Columns}
+use Rattle.sigma_lower.proofs.Words.{Path, size_under, AllOrdered, embed, phase_term, left_core, left_path, left_terms}
+use Rattle.sigma_lower.proofs.Words.{lines_dealt, lines_moved, right_path, right_terms, root_terms, tile_path}
+use Rattle.sigma_lower.proofs.Words.{vectors_grouped, vectors_turned, whole_path, PlainTerm, gath, scat, diag, nest}
+use Rattle.sigma_lower.proofs.Words.{lowered, lowered_of, wrapped, chosen, PlainLoop, HasLoop, is_tile, is_alone}
+use Rattle.sigma_lower.proofs.Words.{PlainWork, kernel, rows, tile, RootHasParts, Layout, work, by, layout_size}
+use Rattle.sigma_lower.proofs.Words.{IsGoodWork, IsGoodLayout, steps_of, Looping, looped, stored_last, CanScale}
+use Rattle.sigma_lower.specs.Order.{IsOrderedPhase, TreesOrdered}
 use Rattle.sigma_lower.proofs.TreeLoops.Emitted.{as_lowered, emitted-lowered}
 use Rattle.sigma_lower.proofs.TreeLoops.TreePasses.{back}
 use Rattle.sigma_lower.proofs.TreeLoops.Walks.{IsLaw, Keeps, Point, RightKeeps, begun, done, ready, right-law, settled}
 use Rattle.sigma_lower.proofs.TreeLoops.Walks.{steps-law, tiled}
 use Rattle.sigma_lower.proofs.TreeTerms.Both.{plain_terms}
 use Rattle.sigma_lower.proofs.TreeTerms.RootTerms.{rule-shared, shared_terms}
-use Rattle.sigma_spl.proofs.Walk.{chosen}
+use Rattle.sigma_spl.specs.Loops.{InOrder}
 use Rattle.sigma_spl.specs.Loops as loops
-use Rattle.sigma_spl.specs.Loops.{PlainLoop, Looping, looped, stored_last, CanScale, HasLoop, InOrder}
-use Rattle.sigma_spl.specs.Merge.{is_tile}
-use Rattle.sigma_spl.specs.Shared.Targets.{is_alone}
-use Rattle.sigma_spl.specs.Work.{PlainWork, kernel, rows, horner, tile, copy}
-use Rattle.smp_rewrite.specs.Fits.{RootHasParts}
-use Rattle.smp_rewrite.specs.LayoutSteps.Layout.{Layout, work, by, layout_size, IsGoodWork, IsGoodLayout}
-use Rattle.smp_rewrite.specs.LayoutSteps.Step.{steps_of}
 
 -- ---- the law
 
@@ -80,9 +68,7 @@ gathers i f st is = ((tt, tt), tt)
 transforms : (m : ℕ) (path : Path) (w : PlainWork) → IsGoodWork m w → Orders ready (nest path w ∷ []) done
 transforms m path (kernel trees) good st is = ((tt, tt), (refl, refl, refl))
 transforms m path (rows root size) good st is = ((tt, tt), (refl, refl, refl))
-transforms m path (horner root size) good st is = absurd good
-transforms m path (tile v) good st is = absurd good
-transforms m path (copy size) good st is = absurd good
+transforms m path _ good st is = absurd good
 
 stored-free : (f : Mapping) (ps : List PlainLoop) → LastFree ps → HasLoop ps × LastFree (stored_last f ps)
 stored-free f [] free = absurd free

@@ -1,35 +1,24 @@
 -- What terms do under the tensors of a path.
-use Rattle.std.proofs.Common.{◌≡◌, ℕ, ◌+◌, ◌*◌, ◌/◌, ◌%◌, ◌<◌, arith, refl, sym, ap, ap₂, ◌∙◌, List, [], ◌∷◌, ◌++◌}
-use Rattle.std.proofs.Common.{length, inl, inr, subst, mod-lt, mod-eq_of_lt, div-lt_iff_lt-mul}
-use Rattle.std.specs.Prelude.{slice_index}
-use Rattle.std.proofs.Math.Nat.{mod-mod, div-one, mod-one, div-eq_of_lt}
-use Rattle.std.proofs.lemmas.Bool.{cases_eq}
-use Rattle.std.proofs.lemmas.Bool.Decides.{nat_tests}
-use Rattle.std.proofs.lemmas.List.FromFn.{fill_by_all}
-use Rattle.matrix_meaning.specs.declared.Kind.{Kind}
-use Rattle.matrix_meaning.specs.Kind.{transform, entry_of}
-use Rattle.operators.specs.Operator.{Operator, gather, scale, stride, block, column, on_blocks, on_columns}
+use Rattle.sigma_lower.proofs.Words.{chosen, is-one, true, ◌==◌, ◌≡◌, ℕ, ◌+◌, ◌*◌, ◌/◌, ◌%◌, ◌<◌, arith, refl, sym, ap}
+use Rattle.sigma_lower.proofs.Words.{ap₂, ◌∙◌, List, [], ◌∷◌, ◌++◌, length, subst, mod-lt, div-lt_iff_lt-mul}
+use Rattle.sigma_lower.proofs.Words.{slice_index, fill_by_all, Kind, transform, gather, scale, stride, column}
+use Rattle.sigma_lower.proofs.Words.{on_blocks, on_columns, at-list_below, list_below-same, place_below}
+use Rattle.sigma_lower.proofs.Words.{factor_positive, CanNest, IsGoodTerm, IsVector, factor_count, factor_at, product}
+use Rattle.sigma_lower.proofs.Words.{term_on, PlainWork, tile, work_size, work_on, vector-below, one_more, Tensor}
+use Rattle.sigma_lower.proofs.Words.{Blocks, Columns, Path, count_of, grown, size_under, under, place, size_under-push}
+use Rattle.sigma_lower.proofs.Words.{mod-eq_of_lt, div-one, mod-one, entry_of, Operator, block, stride_below}
+use Rattle.sigma_lower.proofs.Words.{list_below, length-list_below, PlainFactors, under-vector, vector-fill}
+use Rattle.sigma_lower.proofs.Words.{place-below, under-push, under-size, grown-one}
+use Rattle.std.proofs.Math.Nat.{mod-mod, div-eq_of_lt}
 use Rattle.operators.specs.Identities.{turn}
-use Rattle.operators.proofs.Places.{stride_below}
-use Rattle.operators.specs.Sum.{list_below}
-use Rattle.operators.proofs.Lists.{at-list_below, list_below-same, length-list_below, place_below, factor_positive}
 use Rattle.operators.proofs.Sums.{sum_below-same}
-use Rattle.sigma_spl.specs.Good.{CanNest, IsGoodTerm, IsVector}
-use Rattle.sigma_spl.specs.Nest.{PlainFactors, factor_count, factor_at}
-use Rattle.sigma_spl.specs.Term.{PlainTerm, nest, move, diag, product, term_on}
-use Rattle.sigma_spl.specs.Work.{PlainWork, tile, work_size, work_on}
-use Rattle.sigma_spl.proofs.Keeps.{under-vector, vector-fill}
+use Rattle.sigma_spl.specs.Term.{PlainTerm, nest, move, diag}
 use Rattle.sigma_spl.proofs.Natural.{at-natural}
 use Rattle.sigma_spl.proofs.Limited.{below-all}
-use Rattle.sigma_spl.proofs.Walk.{vector-below}
-use Rattle.sigma_lower.specs.Terms.{one_more}
 use Rattle.sigma_lower.proofs.TreeTerms.Permuted.{scale-under}
-use Rattle.operators.specs.declared.tensor_paths.Tensor.{Tensor}
-use Rattle.operators.specs.declared.tensor_paths.Tensor.TheVariants.{Blocks, Columns}
-use Rattle.operators.specs.TensorPaths.Path.{Path, count_of, grown, size_under, one_under, under, place, Reads, local}
-use Rattle.operators.proofs.TensorPaths.PathPlaces.{at-under, place-below}
-use Rattle.operators.proofs.TensorPaths.Under.{size_under-push, under-push, under-product, under-size}
-use Rattle.smp_rewrite.proofs.Tensors.{grown-one}
+use Rattle.operators.specs.TensorPaths.Path.{one_under, Reads, local}
+use Rattle.operators.proofs.TensorPaths.PathPlaces.{at-under}
+use Rattle.operators.proofs.TensorPaths.Under.{under-product}
 
 -- a good term that does to a vector what an operator does
 pub record Lowers (m n : ℕ) (t : PlainTerm) (a : Operator) : Type 0 where
@@ -209,23 +198,21 @@ one-copy m (Columns c) n a y one v size = one-column m n c a y one v size
 
 pub size-more : (path : Path) (t : Tensor) (n : ℕ) → size_under (one_more path t) n ≡ size_under path (grown t n)
 size-more path t n =
-    elim (cases_eq (count_of t) 1) [
-      | inl one ↦ let is : one_more path t ≡ path = grind (arith, nat_tests) in ap (λ p. size_under p n) is ∙ ap (size_under path) (sym (grown-one t n one))
-      | inr several ↦ let is : one_more path t ≡ path ++ t ∷ [] = grind (arith, nat_tests) in ap (λ p. size_under p n) is ∙ size_under-push path t n
-    ]
+    chosen (λ p. size_under p n ≡ size_under path (grown t n)) (count_of t == 1) path (path ++ t ∷ [])
+    (λ one. ap (size_under path) (sym (grown-one t n (is-one (count_of t) one)))) (size_under-push path t n)
 
 pub more-under : (m : ℕ) (path : Path) (t : Tensor) (n : ℕ) (a : Operator) (x : List ℕ) →
     ((y : List ℕ) → IsVector m n y → IsVector m n (a y)) → IsVector m (size_under path (grown t n)) x →
     under (one_more path t) n a x ≡ under path (grown t n) (one_under t n a) x
 more-under m path t n a x keep v =
-    elim (cases_eq (count_of t) 1) [
-      | inl one ↦
-          let is : one_more path t ≡ path = grind (arith, nat_tests) in
-          ap (λ p. under p n a x) is
-          ∙ ap (λ k. under path k a x) (sym (grown-one t n one))
-          ∙ sym (under-vector m path (grown t n) (one_under t n a) a x (λ y w. let u = subst (λ k. IsVector m k y) (grown-one t n one) w in one-copy m t n a y one u (keep y u).size) v)
-      | inr several ↦ let is : one_more path t ≡ path ++ t ∷ [] = grind (arith, nat_tests) in ap (λ p. under p n a x) is ∙ under-push path t n a x
-    ]
+    let alone = λ (one : (count_of t == 1) ≡ true).
+    let count = is-one (count_of t) one in
+    let same = λ (y : List ℕ) (w : IsVector m (grown t n) y).
+    let u = subst (λ k. IsVector m k y) (grown-one t n count) w in one-copy m t n a y count u (keep y u).size in
+    ap (λ k. under path k a x) (sym (grown-one t n count))
+    ∙ sym (under-vector m path (grown t n) (one_under t n a) a x same v) in
+    chosen (λ p. under p n a x ≡ under path (grown t n) (one_under t n a) x) (count_of t == 1) path (path ++ t ∷ []) alone
+    (under-push path t n a x)
 
 pub more-lowers : (m : ℕ) (path : Path) (t : Tensor) (n : ℕ) (s : PlainTerm) (a : Operator) →
     ((y : List ℕ) → IsVector m n y → IsVector m n (a y)) → Lowers m (size_under (one_more path t) n) s

@@ -1,19 +1,11 @@
 -- The tensors in the term of a formula have several copies.
-use Rattle.std.proofs.Common.{◌≡◌, ℕ, zero, suc, ◌^◌, ◌≤◌, arith, sym, [], ◌∷◌, ◌++◌, inl, inr, subst, pow_pos}
-use Rattle.std.proofs.lemmas.Bool.{cases_eq, cases_lt}
-use Rattle.std.proofs.lemmas.Bool.Decides.{nat_tests}
-use Rattle.matrix_meaning.specs.declared.Kind.TheVariants.{Dft}
-use Rattle.sigma_spl.specs.Limits.{AreSeveral, HasSeveral}
+use Rattle.sigma_lower.proofs.Words.{◌≡◌, ℕ, zero, suc, ◌^◌, ◌≤◌, arith, sym, [], ◌∷◌, ◌++◌, inl, inr, subst, cases_eq}
+use Rattle.sigma_lower.proofs.Words.{cases_lt, nat_tests, Dft, AreSeveral, kernel, horner, short, one_more, halvings}
+use Rattle.sigma_lower.proofs.Words.{hadamard_term, fourier_term, term_of, Formula, Fourier, Hadamard, Permutation}
+use Rattle.sigma_lower.proofs.Words.{Product, TensorLeft, TensorRight, DirectSum, Pending, IsShaped, Tensor, Blocks}
+use Rattle.sigma_lower.proofs.Words.{Columns, Path, count_of, HasSeveral, several-push}
+use Rattle.std.proofs.Common.{pow_pos}
 use Rattle.sigma_spl.specs.Term.{nest}
-use Rattle.sigma_spl.specs.Work.{kernel, horner, short}
-use Rattle.sigma_spl.proofs.Several.{several-push}
-use Rattle.sigma_lower.specs.Terms.{one_more, halvings, hadamard_term, fourier_term, term_of}
-use Rattle.spl_ast.specs.Formula.{Formula, Identity, Fourier, Hadamard, Twiddles, Diagonal, Stride, Permutation}
-use Rattle.spl_ast.specs.Formula.{GoodThomasIn, GoodThomasOut, Product, TensorLeft, TensorRight, DirectSum, Pending}
-use Rattle.spl_ast.specs.Shape.{IsShaped}
-use Rattle.operators.specs.declared.tensor_paths.Tensor.{Tensor}
-use Rattle.operators.specs.declared.tensor_paths.Tensor.TheVariants.{Blocks, Columns}
-use Rattle.operators.specs.TensorPaths.Path.{Path, count_of}
 
 several-more : (path : Path) (t : Tensor) → AreSeveral path → 1 ≤ count_of t → AreSeveral (one_more path t)
 several-more path t h some =
@@ -34,17 +26,12 @@ fourier-several path n w h =
     ]
 
 pub term-several : (m : ℕ) (path : Path) (f : Formula) → AreSeveral path → IsShaped f → HasSeveral (term_of m path f)
-term-several m path (Identity n) h shaped = tt
 term-several m path (Fourier n w) h shaped = fourier-several path n w h
 term-several m path (Hadamard n) h shaped = hadamard-several path (halvings n n) h
-term-several m path (Twiddles n s w) h shaped = tt
-term-several m path (Diagonal c) h shaped = tt
-term-several m path (Stride n r) h shaped = tt
 term-several m path (Permutation k) h shaped = h
-term-several m path (GoodThomasIn r s) h shaped = tt
-term-several m path (GoodThomasOut r s) h shaped = tt
 term-several m path (Product a b) h shaped = (term-several m path b h shaped.1, term-several m path a h shaped.0)
 term-several m path (TensorLeft a k) h shaped = term-several m (one_more path (Columns k)) a (several-more path (Columns k) h shaped.1.0) shaped.0
 term-several m path (TensorRight k a) h shaped = term-several m (one_more path (Blocks k)) a (several-more path (Blocks k) h shaped.0.0) shaped.1
 term-several m path (DirectSum a b) h shaped = (h, term-several m [] a tt shaped.0, term-several m [] b tt shaped.1)
 term-several m path (Pending a) h shaped = term-several m path a h shaped
+term-several m path _ h shaped = tt

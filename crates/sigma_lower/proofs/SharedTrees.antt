@@ -1,28 +1,14 @@
 -- The terms of whole trees, for any processors and lanes, are good terms, which do what they did.
-use Rattle.std.proofs.Common.{◌≡◌, ℕ, ◌==◌, refl, sym, ap, ◌∙◌, List, [], ◌∷◌, ◌++◌, subst}
-use Rattle.std.specs.Prelude.{All, map}
-use Rattle.std.proofs.lemmas.List.Elements.{All-nil, All-cons, All-head, All-tail}
-use Rattle.operators.specs.declared.target.Target.{Target}
-use Rattle.sigma_lower.specs.Machine.{IsMachine}
-use Rattle.sigma_spl.proofs.Walk.{chosen}
-use Rattle.sigma_spl.specs.Good.{IsGoodTerm, IsVector}
-use Rattle.sigma_spl.specs.Term.{term_on}
-use Rattle.sigma_lower.specs.Shared.{phase_term}
+use Rattle.sigma_lower.proofs.Words.{◌≡◌, ℕ, ◌==◌, refl, sym, ap, ◌∙◌, List, [], ◌∷◌, ◌++◌, subst, All, map, All-nil}
+use Rattle.sigma_lower.proofs.Words.{All-cons, All-head, All-tail, Target, IsMachine, chosen, IsGoodTerm, IsVector}
+use Rattle.sigma_lower.proofs.Words.{term_on, phase_term, AreGood, IsVecOf, factor_term, lowered_of, layout_smp, only}
+use Rattle.sigma_lower.proofs.Words.{HasLanes, laned, vec_of, PlainFactor, factor_step, vec_shaped, CanShareLayout}
+use Rattle.sigma_lower.proofs.Words.{Layout, IsGoodLayout, IsGoodWhole}
 use Rattle.sigma_lower.proofs.Embedded.{factors_embed}
 use Rattle.sigma_lower.proofs.Trees.{step-keeps}
-use Rattle.sigma_lower.specs.TreeTerms.Good.{AreGood, IsVecOf}
-use Rattle.sigma_lower.specs.TreeTerms.Term as lowered
-use Rattle.sigma_lower.specs.TreeTerms.Term.{factor_term, lowered_of}
 use Rattle.sigma_lower.proofs.TreeTerms.Goods.{vec_good, phases_good}
 use Rattle.sigma_lower.proofs.TreeTerms.Lowering.{factor_on}
-use Rattle.smp_rewrite.specs.Cut.{layout_smp}
-use Rattle.smp_rewrite.specs.LayoutSteps.Whole.{only, IsGoodWhole}
-use Rattle.vec_rewrite.specs.Laws.{HasLanes}
-use Rattle.vec_rewrite.specs.Turning.{laned, vec_of}
-use Rattle.vec_rewrite.specs.Vectors.{PlainFactor, factor_step}
-use Rattle.vec_rewrite.proofs.LaneShapes.{vec_shaped}
-use Rattle.smp_rewrite.specs.Fits.{CanShareLayout}
-use Rattle.smp_rewrite.specs.LayoutSteps.Layout.{Layout, IsGoodLayout}
+use Rattle.sigma_lower.specs.TreeTerms.Term as lowered
 
 -- ---- phases
 

@@ -1,33 +1,22 @@
 -- The terms of a formula for lanes: they are those of its factors, do what it does, and can be merged.
-use Rattle.std.proofs.Common.{◌≡◌, ◌≢◌, ℕ, ◌<◌, arith, refl, sym, ap, ap₂, ◌∙◌, List, [], ◌∷◌, ◌++◌, subst}
-use Rattle.std.specs.Prelude.{map, reverse}
-use Rattle.std.proofs.lemmas.Bool.Decides.{nat_tests}
-use Rattle.std.proofs.lemmas.List.{reverse-append}
-use Rattle.operators.specs.declared.target.Target.{Target}
-use Rattle.sigma_lower.specs.Machine.{IsMachine}
-use Rattle.sigma_spl.specs.Good.{IsVector}
-use Rattle.sigma_spl.specs.Merge.{unbounded, passes_within}
-use Rattle.sigma_spl.specs.Sigma.{PlainSigma, IsGoodSigma, sigma_on, terms_on}
-use Rattle.sigma_spl.specs.Term.{PlainTerm, same, product, term_on}
-use Rattle.sigma_spl.proofs.Keeps.{merge_keeps}
+use Rattle.sigma_lower.proofs.Words.{◌≡◌, ◌≢◌, ℕ, ◌<◌, arith, refl, sym, ap, ap₂, ◌∙◌, List, [], ◌∷◌, ◌++◌, subst, map}
+use Rattle.sigma_lower.proofs.Words.{reverse, nat_tests, reverse-append, Target, IsMachine, IsVector, PlainSigma, same}
+use Rattle.sigma_lower.proofs.Words.{product, term_on, merge_keeps, CanLower, embed, phase_term, IsVecOf, factor_term}
+use Rattle.sigma_lower.proofs.Words.{terms_in, smp_of, vec_of, PlainFactor, PlainVec, unbounded, passes_within}
+use Rattle.sigma_lower.proofs.Words.{IsGoodSigma, sigma_on, terms_on, sigma_of, closed_on, VecFactor, plain_vec_factor}
+use Rattle.sigma_spl.specs.Term.{PlainTerm}
 use Rattle.sigma_spl.proofs.Walk.{passes-vector}
-use Rattle.sigma_lower.specs.Merged.{sigma_of, CanLower, SigmaTransforms}
-use Rattle.sigma_lower.specs.Shared.{embed, factors_before, phase_term}
+use Rattle.sigma_lower.specs.Merged.{SigmaTransforms}
+use Rattle.sigma_lower.specs.Shared.{factors_before}
 use Rattle.sigma_lower.proofs.CanMerge.{trees_can_merge}
 use Rattle.sigma_lower.proofs.Closing.{has_phase, closed-on}
 use Rattle.sigma_lower.proofs.SharedTrees.{AllEmbed, PhaseEmbeds, trees_embed}
-use Rattle.sigma_lower.specs.TreeTerms.Good.{IsVecOf}
-use Rattle.sigma_lower.specs.TreeTerms.Term as lowered
-use Rattle.sigma_lower.specs.TreeTerms.Term.{factor_term, phases_of, terms_in}
+use Rattle.sigma_lower.specs.TreeTerms.Term.{phases_of}
 use Rattle.sigma_lower.proofs.TreeTerms.Both.{terms_mean}
-use Rattle.smp_rewrite.specs.Cut.{smp_of}
 use Rattle.smp_rewrite.proofs.TreeLaws.{smp_transforms}
-use Rattle.smp_rewrite.specs.LayoutSteps.Whole.{closed_on}
-use Rattle.vec_rewrite.specs.declared.VecFactor.{VecFactor}
-use Rattle.vec_rewrite.specs.Turning.{vec_of}
-use Rattle.vec_rewrite.specs.Vectors.{PlainFactor, PlainVec, vec_on}
-use Rattle.vec_rewrite.specs.Views.{plain_vec_factor}
+use Rattle.vec_rewrite.specs.Vectors.{vec_on}
 use Rattle.vec_rewrite.proofs.LaneLaws.{vec_keeps}
+use Rattle.sigma_lower.specs.TreeTerms.Term as lowered
 
 -- ---- phases
 

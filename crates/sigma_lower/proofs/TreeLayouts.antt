@@ -1,10 +1,7 @@
 -- The whole of a tree that a request admits meets what the laws of wholes ask for.
-use Rattle.sigma_lower.specs.Machine.{IsMachine}
+use Rattle.sigma_lower.proofs.Words.{IsMachine, IsValid, Request, target_of}
 use Rattle.sigma_lower.specs.Merged.{TreesCanLower}
-use Rattle.matrix_meaning.specs.Valid.{IsValid}
-use Rattle.matrix_meaning.specs.declared.Request.{Request}
 use Rattle.smp_rewrite.proofs.TreeLaws.{layouts_fit}
-use Rattle.sigma_spl.specs.Shared.Targets.{target_of}
 use Rattle.smp_rewrite.proofs.LayoutSteps.Wholes.{wholes_are_good}
 
 -- the machine of a valid request

@@ -23,7 +23,6 @@ pub mod PartRules
 pub mod Staying
 pub mod InnerPlaces
 pub mod Shaped
-pub mod GoodPlaces
 pub mod RootPasses
 pub mod RootMerging
 pub mod Wholes

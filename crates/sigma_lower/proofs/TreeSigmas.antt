@@ -1,4 +1,3 @@
-pub mod Works
 pub mod Hosted
 pub mod Frames
 pub mod Places

@@ -1,40 +1,26 @@
 -- The terms of the steps of a tree do what the steps do.
-use Rattle.std.proofs.Common.{◌≡◌, ℕ, ◌*◌, ◌<◌, ◌≤◌, arith, sym, ap, ◌∙◌, List, subst}
-use Rattle.index_fn.specs.Mapping.{Strided, ThomasIn, ThomasOut, ThomasBack, at}
-use Rattle.matrix_meaning.specs.declared.Kind.TheVariants.{Dft}
-use Rattle.operators.specs.declared.target.Target.{Target}
-use Rattle.matrix_meaning.specs.Kind.{transform}
-use Rattle.sigma_lower.specs.Machine.{IsMachine}
-use Rattle.operators.specs.Loop.{IsPermutationBelow}
-use Rattle.operators.specs.Operator.{gather, on_columns, on_blocks, column}
-use Rattle.sigma_spl.specs.Good.{CanNest, IsMove, IsVector}
-use Rattle.sigma_spl.specs.Merge.{unit_below, back_of}
-use Rattle.sigma_spl.specs.Nest as nests
+use Rattle.sigma_lower.proofs.Words.{◌≡◌, ℕ, ◌*◌, ◌<◌, ◌≤◌, arith, sym, ap, ◌∙◌, List, subst, Strided, ThomasIn}
+use Rattle.sigma_lower.proofs.Words.{ThomasOut, ThomasBack, at, Dft, Target, transform, IsMachine, IsPermutationBelow}
+use Rattle.sigma_lower.proofs.Words.{gather, on_columns, on_blocks, column, CanNest, IsMove, IsVector, unit_below}
+use Rattle.sigma_lower.proofs.Words.{back_of, PlainWork, kernel, rows, horner, tile, copy, work_size, work_on, trees_of}
+use Rattle.sigma_lower.proofs.Words.{moves-no-words, vector-below, trees_size, core_term, AreCoprime, IsGoodPiece}
+use Rattle.sigma_lower.proofs.Words.{IsGoodCore, IsGood, wrapped, core_size, step_on, PlainCore, piece, turns}
+use Rattle.sigma_lower.proofs.Words.{thomas_in, thomas_out, PlainStep, Path, copies_of, size_under, under}
+use Rattle.sigma_lower.proofs.Words.{size_under-copies, mod-lt, div-lt_iff_lt-mul, ◌/◌, ◌%◌, slice_index, at-list_below}
+use Rattle.sigma_lower.proofs.Words.{factor_positive, Blocks, scatter-same, PlainTrees, single, tensor, core_on}
+use Rattle.sigma_lower.proofs.Words.{length-list_below}
 use Rattle.sigma_spl.specs.Term.{scat}
-use Rattle.sigma_spl.specs.Work.{PlainWork, kernel, rows, horner, tile, copy, work_size, work_on, trees_of}
-use Rattle.sigma_spl.proofs.Nests.{moves-no-words}
-use Rattle.sigma_spl.proofs.Keeps.{scatter-same}
-use Rattle.sigma_spl.proofs.Walk.{gather-vector, vector-below}
-use Rattle.tree_model.specs.Trees.{PlainTrees, single, tensor, trees_size, trees_on}
-use Rattle.sigma_lower.specs.Trees.{core_term}
+use Rattle.sigma_spl.proofs.Walk.{gather-vector}
+use Rattle.tree_model.specs.Trees.{trees_on}
 use Rattle.sigma_lower.proofs.Lowers.{gath-lowers}
 use Rattle.sigma_lower.proofs.Moves.{back-wrapped, move-wrapped, strided-move, in-move, out-move}
 use Rattle.sigma_lower.proofs.Parts.{IsWork, transform-work, nest-lowers, diag-lowers, under-keeps, Lowers}
-use Rattle.sigma_lower.specs.TreeTerms.Good.{AreCoprime, IsGoodPiece, IsGoodCore, IsGood}
-use Rattle.sigma_lower.specs.TreeTerms.Wrapped.{wrapped}
 use Rattle.sigma_lower.proofs.TreeTerms.Lowering.{part-le}
-use Rattle.smp_rewrite.specs.LayoutSteps.Meaning.{core_size, core_on, step_on}
-use Rattle.smp_rewrite.specs.LayoutSteps.Step.{PlainCore, piece, turns, thomas_in, thomas_out, PlainStep}
-use Rattle.smp_rewrite.specs.LayoutSteps.Step as steps
-use Rattle.operators.specs.TensorPaths.Path.{Path, copies_of, size_under, under}
-use Rattle.operators.proofs.TensorPaths.Under.{size_under-copies}
 use Rattle.tree_model.specs.Breakdown.{size_of}
-use Rattle.std.proofs.Common.{mod-lt, div-lt_iff_lt-mul, ◌/◌, ◌%◌}
-use Rattle.std.specs.Prelude.{slice_index}
-use Rattle.operators.proofs.Lists.{at-list_below, length-list_below, factor_positive}
 use Rattle.smp_rewrite.proofs.Tensors.{reads-one_under}
-use Rattle.operators.specs.declared.tensor_paths.Tensor.TheVariants.{Blocks}
 use Rattle.sigma_lower.proofs.TreeTerms.Permuted.{gather-under}
+use Rattle.sigma_spl.specs.Nest as nests
+use Rattle.smp_rewrite.specs.LayoutSteps.Step as steps
 
 -- ---- works
 
@@ -59,15 +45,12 @@ pub piece-work : (m : ℕ) (w : PlainWork) → IsGoodPiece w → IsWork m (work_
 piece-work m (kernel k) h = trees-work m (trees_of k)
 piece-work m (rows root size) h = transform-work Dft m size root
 piece-work m (horner root size) h = transform-work Dft m size root
-piece-work m (tile v) h = absurd h
-piece-work m (copy size) h = absurd h
+piece-work m _ h = absurd h
 
 pub piece-nests : (v : ℕ) (path : Path) (w : PlainWork) → IsGoodPiece w → CanNest v path w
-piece-nests v path (kernel trees) h = tt
-piece-nests v path (rows root size) h = tt
-piece-nests v path (horner root size) h = tt
 piece-nests v path (tile n) h = absurd h
 piece-nests v path (copy size) h = absurd h
+piece-nests v path _ h = tt
 
 piece-vector : (m : ℕ) (w : PlainWork) (y : List ℕ) → 0 < m → IsGoodPiece w → IsVector m (work_size w) (work_on m w y)
 piece-vector m w y positive h =

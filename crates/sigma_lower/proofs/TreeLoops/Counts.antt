@@ -1,34 +1,21 @@
 -- The merged passes of a layout are its passes, one by one.
-use Rattle.std.proofs.Common.{◌≡◌, ℕ, ◌*◌, ◌/◌, ◌≤◌, ◌==◌, Bool, true, false, arith, List, [], ◌∷◌, ◌++◌, refl, sym, ap}
-use Rattle.std.proofs.Common.{ap₂, ◌∙◌, if◌then◌else◌, append_assoc}
-use Rattle.std.specs.Prelude.{map, Option, Some, None, nat_le}
-use Rattle.std.specs.Option.{option_map}
+use Rattle.sigma_lower.proofs.Words.{◌≡◌, ℕ, ◌*◌, ◌/◌, ◌≤◌, ◌==◌, Bool, true, false, arith, List, [], ◌∷◌, ◌++◌, refl}
+use Rattle.sigma_lower.proofs.Words.{sym, ap, ap₂, ◌∙◌, if◌then◌else◌, append_assoc, map, Option, Some, None, nat_le}
+use Rattle.sigma_lower.proofs.Words.{option_map, nat_tests, map-append, Target, Counted, works, tiles, with_twiddles}
+use Rattle.sigma_lower.proofs.Words.{twiddle_last, twiddle_by, passes_of, tiled_passes, whole_passes, has_diagonal}
+use Rattle.sigma_lower.proofs.Words.{counted_as, counted, PlainDiagonal, PlainPass, in_order, merged_of, right_path}
+use Rattle.sigma_lower.proofs.Words.{left_path, PlainWork, kernel, Layout, work, by, layout_size, IsGoodLayout, within}
+use Rattle.sigma_lower.proofs.Words.{Tensor, Blocks, Columns, Path, count_of, copies_of, Rule, Gt, Ct, Split, Dim}
+use Rattle.sigma_lower.proofs.Words.{CanShareLayout, is_alone, copies-within}
 use Rattle.std.proofs.Math.Nat.{mul_assoc}
-use Rattle.std.proofs.lemmas.Bool.Decides.{nat_tests}
-use Rattle.std.proofs.lemmas.List.{map-append, append-nil}
-use Rattle.operators.specs.declared.target.Target.{Target}
-use Rattle.sigma_lower.specs.TreeLoops.Laws.{Counted, works, tiles, with_twiddles, twiddle_last, twiddle_by, passes_of}
-use Rattle.sigma_lower.specs.TreeLoops.Laws.{tiled_passes, whole_passes, has_diagonal, counted_as, counted}
-use Rattle.sigma_lower.specs.TreeLoops.Merge.{PlainDiagonal, PlainPass, in_order, merged_of}
+use Rattle.std.proofs.lemmas.List.{append-nil}
 use Rattle.sigma_lower.proofs.TreeLoops.RootDealt.{IsDealt, dealt_parts}
 use Rattle.sigma_lower.proofs.TreeLoops.RootMerging.{root_merged}
 use Rattle.sigma_lower.proofs.TreeLoops.RootPasses.{tile_before, tile_after, if_lanes, turned_waiting, right_passes}
 use Rattle.sigma_lower.proofs.TreeLoops.RootPasses.{left_diagonal, left_pass, left_passes, root_passes}
 use Rattle.sigma_lower.proofs.TreeLoops.TreePasses.{layout_passes, counted_passes, counted-multiplied}
 use Rattle.sigma_lower.proofs.TreeLoops.Wholes.{plain_passes}
-use Rattle.sigma_lower.specs.TreeTerms.Root.{right_path, left_path}
 use Rattle.sigma_lower.proofs.TreeTerms.RootTerms.{IsShared, rule-fits, rule-shared}
-use Rattle.sigma_spl.specs.Work.{PlainWork, kernel, rows, horner, tile, copy}
-use Rattle.smp_rewrite.specs.LayoutSteps.Layout.{Layout, work, by, layout_size, IsGoodLayout}
-use Rattle.smp_rewrite.specs.Smp.{within}
-use Rattle.smp_rewrite.proofs.Tensors.{copies-within}
-use Rattle.operators.specs.declared.tensor_paths.Tensor.{Tensor}
-use Rattle.operators.specs.declared.tensor_paths.Tensor.TheVariants.{Blocks, Columns}
-use Rattle.operators.specs.TensorPaths.Path.{Path, count_of, copies_of}
-use Rattle.tree_model.specs.declared.tree.Rule.{Rule}
-use Rattle.tree_model.specs.declared.tree.Rule.TheVariants.{Gt, Ct, Split, Dim}
-use Rattle.smp_rewrite.specs.Fits.{CanShareLayout}
-use Rattle.sigma_spl.specs.Shared.Targets.{is_alone}
 
 -- ---- n times as many copies
 
@@ -47,10 +34,8 @@ more-last n (p ∷ q ∷ ps) = ap (λ rest. more n p ∷ rest) (more-last n (q �
 
 more-by : (n : ℕ) (rule : Rule) (ps : List Counted) → map (more n) (twiddle_by rule ps)
     ≡ twiddle_by rule (map (more n) ps)
-more-by n Gt ps = refl
 more-by n Ct ps = more-last n ps
-more-by n Split ps = refl
-more-by n Dim ps = refl
+more-by n _ ps = refl
 
 more-passes : (n k : ℕ) (l : Layout) → map (more n) (passes_of k l) ≡ passes_of (n * k) l
 more-passes n k (work w) = refl
@@ -70,10 +55,7 @@ copies_of-append (t ∷ outer) inner = ap (λ n. count_of t * n) (copies_of-appe
 
 more-counted : (n k : ℕ) (w : PlainWork) (b : Bool) → counted_as (n * k) w b ≡ more n (counted_as k w b)
 more-counted n k (kernel trees) b = refl
-more-counted n k (rows root size) b = refl
-more-counted n k (horner root size) b = refl
-more-counted n k (tile v) b = refl
-more-counted n k (copy size) b = refl
+more-counted n k _ b = refl
 
 same-diagonal : (f : PlainDiagonal → PlainDiagonal) (o : Option PlainDiagonal) →
     has_diagonal (option_map f o) ≡ has_diagonal o
@@ -110,9 +92,8 @@ copies-dealt p v k t is dealt =
 -- ---- the right part
 
 last-tile : (ps : List Counted) (b : Bool) → twiddle_last (ps ++ tiles b ∷ []) ≡ ps ++ tiles true ∷ []
-last-tile [] b = refl
-last-tile (p ∷ []) b = refl
 last-tile (p ∷ q ∷ ps) b = ap (λ rest. p ∷ rest) (last-tile (q ∷ ps) b)
+last-tile _ b = refl
 
 counted-lanes : (b : Bool) (p : PlainPass) → map counted (if b then [] else p ∷ []) ≡ (if b then [] else counted p ∷ [])
 counted-lanes true p = refl
@@ -150,8 +131,7 @@ counted-right_passes m p v Ct w a b h =
     (map-append counted inner (if_lanes v (tile_after p v r s))
     ∙ ap₂ (λ x y. x ++ y) (counted_passes m (right_path p v r) (turned_waiting p v r s) b h)
     (counted-lanes (v == 1) (tile_after p v r s)))
-counted-right_passes m p v Split w a b h = counted-split m p v w a b h
-counted-right_passes m p v Dim w a b h = counted-split m p v w a b h
+counted-right_passes m p v _ w a b h = counted-split m p v w a b h
 
 -- ---- the root
 
@@ -174,8 +154,7 @@ on_one_lane : (rule : Rule) (ps qs : List Counted) → IsShared rule →
     counted_right rule true ps ++ qs ≡ twiddle_by rule ps ++ qs
 on_one_lane Gt ps qs h = absurd h
 on_one_lane Ct ps qs h = ap (λ xs. twiddle_last xs ++ qs) (append-nil ps)
-on_one_lane Split ps qs h = ap (λ xs. xs ++ qs) (append-nil ps)
-on_one_lane Dim ps qs h = ap (λ xs. xs ++ qs) (append-nil ps)
+on_one_lane _ ps qs h = ap (λ xs. xs ++ qs) (append-nil ps)
 
 split_on_lanes : (a b : Layout) →
     counted_right Split false (passes_of (layout_size a) b) ++ passes_of (layout_size b) a ≡ tiled_passes (by Split 0 a b)
@@ -190,16 +169,14 @@ on_lanes Gt root a b h = absurd h
 on_lanes Ct root a b h =
     ap (λ xs. xs ++ passes_of (layout_size b) a) (last-tile (passes_of (layout_size a) b) false)
     ∙ append_assoc (passes_of (layout_size a) b) (tiles true ∷ []) (passes_of (layout_size b) a)
-on_lanes Split root a b h = split_on_lanes a b
-on_lanes Dim root a b h = split_on_lanes a b
+on_lanes _ root a b h = split_on_lanes a b
 
 as_counted : (rule : Rule) (root : ℕ) (a b : Layout) → IsShared rule → (one few : Bool) → one ≡ few →
     counted_right rule one (passes_of (layout_size a) b) ++ passes_of (layout_size b) a
     ≡ (if few then passes_of 1 (by rule root a b) else tiled_passes (by rule root a b))
 as_counted rule root a b h true true e = on_one_lane rule (passes_of (layout_size a) b) (passes_of (layout_size b) a) h ∙ sym (root_passes_of rule root a b)
 as_counted rule root a b h false false e = on_lanes rule root a b h
-as_counted rule root a b h true false e = absurd (cc)
-as_counted rule root a b h false true e = absurd (cc)
+as_counted rule root a b h _ _ e = absurd (cc)
 
 pub counted-root : (c : Target) (rule : Rule) (root : ℕ) (a b : Layout) → IsShared rule →
     IsGoodLayout c.modulus (by rule root a b) → (c.lanes == 1) ≡ nat_le c.lanes 1 →

@@ -1,13 +1,8 @@
 -- Terms that each core of a layout's steps has, and merging them one list after another.
-use Rattle.std.proofs.Common.{◌≡◌, List, [], ◌∷◌, ◌++◌, refl, ap, ◌∙◌}
-use Rattle.std.specs.Prelude.{map}
-use Rattle.std.specs.List.{flat_map}
-use Rattle.std.proofs.lemmas.Grind.{flat_map-append}
+use Rattle.sigma_lower.proofs.Words.{◌≡◌, List, [], ◌∷◌, ◌++◌, refl, ap, ◌∙◌, map, flat_map, Merging, merge_term}
+use Rattle.sigma_lower.proofs.Words.{merged, PlainTerm, lowered, lowered_core, PlainCore, PlainStep, Path}
+use Rattle.sigma_lower.proofs.Words.{flat_map-append}
 use Rattle.std.proofs.lemmas.List.Concat.{flat_map_single}
-use Rattle.sigma_lower.specs.TreeLoops.Merge.{Merging, merge_term, merged}
-use Rattle.sigma_lower.specs.TreeTerms.Term.{PlainTerm, lowered, lowered_core}
-use Rattle.smp_rewrite.specs.LayoutSteps.Step.{PlainCore, PlainStep}
-use Rattle.operators.specs.TensorPaths.Path.{Path}
 
 -- the terms of a core under a path
 abbrev pub Emission : Type 0

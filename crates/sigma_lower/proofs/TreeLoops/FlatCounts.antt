@@ -1,34 +1,17 @@
 -- The passes of a layout of one size count as those of the tree in the cost model.
-use Rattle.std.proofs.Common.{◌≡◌, ℕ, ◌*◌, ◌<◌, Bool, true, false, arith, refl, sym, ap, ◌∙◌, List, [], ◌∷◌, ◌++◌}
-use Rattle.std.proofs.Common.{if◌then◌else◌, inl, inr, subst}
-use Rattle.std.specs.Prelude.{nat_le}
-use Rattle.std.proofs.lemmas.Bool.{cases_lt}
-use Rattle.std.proofs.lemmas.Bool.Decides.{nat_tests}
-use Rattle.kernel_gen.proofs.NodeCosts.{kernel-short}
-use Rattle.sigma_lower.specs.TreeLoops.Laws.{Counted, works, tiles, with_twiddles, twiddle_last, twiddle_by, passes_of}
-use Rattle.sigma_lower.specs.TreeLoops.Laws.{tiled_passes, whole_passes, loads_by}
-use Rattle.matrix_meaning.specs.Valid.{IsValid}
-use Rattle.matrix_meaning.specs.declared.Dimensions.TheVariants.{One}
-use Rattle.matrix_meaning.specs.declared.Kind.{Kind}
-use Rattle.matrix_meaning.specs.declared.Kind.TheVariants.{Dft, Wht, Idft}
-use Rattle.matrix_meaning.specs.declared.Request.{Request}
-use Rattle.sigma_spl.specs.Work.{PlainWork, kernel, node_of}
-use Rattle.smp_rewrite.specs.LayoutSteps.Layout.{Layout, work, by, layout_cost, layout_size, layout_of, long_work}
-use Rattle.smp_rewrite.specs.LayoutSteps.Layout.{node_work}
-use Rattle.sigma_spl.specs.Shared.Costs.{work_cost}
-use Rattle.kernel_gen.specs.Nodes.{IsNodeTree}
-use Rattle.smp_rewrite.specs.LayoutSteps.Meaning.{FitsWhole}
-use Rattle.smp_rewrite.proofs.LayoutSteps.Layouts.{layouts_cost, layouts_have_size}
-use Rattle.kernel_gen.proofs.NodeTrees.{left_tree, right_tree}
-use Rattle.smp_rewrite.proofs.LayoutSteps.NodeTrees.{left_fits, right_fits}
+use Rattle.sigma_lower.proofs.Words.{◌≡◌, ℕ, ◌*◌, ◌<◌, Bool, true, false, arith, refl, sym, ap, ◌∙◌, List, [], ◌∷◌}
+use Rattle.sigma_lower.proofs.Words.{◌++◌, if◌then◌else◌, inl, inr, subst, nat_le, cases_lt, nat_tests, Counted, works}
+use Rattle.sigma_lower.proofs.Words.{tiles, with_twiddles, twiddle_last, twiddle_by, passes_of, tiled_passes}
+use Rattle.sigma_lower.proofs.Words.{whole_passes, IsValid, One, Kind, Dft, Wht, Idft, Request, PlainWork, kernel}
+use Rattle.sigma_lower.proofs.Words.{Layout, work, by, layout_size, layout_of, work_cost, IsNodeTree, left_tree}
+use Rattle.sigma_lower.proofs.Words.{right_tree, Breakdown, leaf, node, AllowsLeaf, is_kernel, node_root, Rule, Gt, Ct}
+use Rattle.sigma_lower.proofs.Words.{Dim, kernel-short, node_of, layout_cost, long_work, node_work, FitsWhole}
+use Rattle.sigma_lower.proofs.Words.{layouts_cost, layouts_have_size, left_fits, is_plain, root_no_kernel, cost_in}
+use Rattle.sigma_lower.specs.TreeLoops.Laws.{loads_by}
+use Rattle.smp_rewrite.proofs.LayoutSteps.NodeTrees.{right_fits}
 use Rattle.tree_model.specs.Admissible.{RuleFits}
-use Rattle.tree_model.specs.Breakdown.{Breakdown, leaf, node, size_of, AllowsLeaf}
-use Rattle.tree_model.specs.Cost.{is_kernel, is_plain, node_root}
-use Rattle.tree_model.proofs.PassLaws.{root_no_kernel}
+use Rattle.tree_model.specs.Breakdown.{size_of}
 use Rattle.tree_model.specs.Passes as trees
-use Rattle.tree_model.specs.Whole.{cost_in, left_of, right_of}
-use Rattle.tree_model.specs.declared.tree.Rule.{Rule}
-use Rattle.tree_model.specs.declared.tree.Rule.TheVariants.{Gt, Ct, Split, Dim}
 
 -- ---- one pass
 
@@ -56,32 +39,27 @@ module _ (n : ℕ) (p : Request) where
   passes-append : (zs rest : List Counted) (qs more : List trees.Pass) → ArePasses n p zs qs → ArePasses n p rest more →
       ArePasses n p (zs ++ rest) (qs ++ more)
   passes-append [] rest [] more h k = k
-  passes-append [] rest (q ∷ qs) more h k = absurd h
-  passes-append (z ∷ zs) rest [] more h k = absurd h
   passes-append (z ∷ zs) rest (q ∷ qs) more h k = (h.0, passes-append zs rest qs more h.1 k)
+  passes-append _ rest _ more h k = absurd h
 
   pass-twiddled : (z : Counted) (q : trees.Pass) → IsPass n p z q → IsPass n p (with_twiddles z) (trees.with_twiddles q)
   pass-twiddled (works k w b) (trees.nodes count t d) h = (h.0, refl)
-  pass-twiddled (works k w b) (trees.tiles d) h = absurd h
-  pass-twiddled (tiles b) (trees.nodes count t d) h = absurd h
   pass-twiddled (tiles b) (trees.tiles d) h = refl
+  pass-twiddled _ _ h = absurd h
 
   passes-last : (zs : List Counted) (qs : List trees.Pass) → ArePasses n p zs qs →
       ArePasses n p (twiddle_last zs) (trees.twiddle_last qs)
   passes-last [] [] h = tt
-  passes-last [] (q ∷ qs) h = absurd h
-  passes-last (z ∷ zs) [] h = absurd h
   passes-last (z ∷ []) (q ∷ []) h = (pass-twiddled z q h.0, tt)
   passes-last (z ∷ []) (q ∷ u ∷ qs) h = absurd h.1
   passes-last (z ∷ y ∷ zs) (q ∷ []) h = absurd h.1
   passes-last (z ∷ y ∷ zs) (q ∷ u ∷ qs) h = (h.0, passes-last (y ∷ zs) (u ∷ qs) h.1)
+  passes-last _ _ h = absurd h
 
   passes-by : (rule : Rule) (zs : List Counted) (qs : List trees.Pass) → ArePasses n p zs qs →
       ArePasses n p (twiddle_by rule zs) (trees.twiddle_by rule qs)
-  passes-by Gt zs qs h = h
   passes-by Ct zs qs h = passes-last zs qs h
-  passes-by Split zs qs h = h
-  passes-by Dim zs qs h = h
+  passes-by _ zs qs h = h
 
 -- ---- a leaf
 
@@ -196,8 +174,7 @@ module _ (n : ℕ) (p : Request) (rule : Rule) (a b : Breakdown) (root : ℕ) (w
           ArePasses n p (tiled_passes (by rule root left right)) (trees.tiled_passes p (node rule a b))
       by-rule Gt fits = absurd fits
       by-rule Ct fits = tiled-both true
-      by-rule Split fits = (refl, tiled-both false)
-      by-rule Dim fits = (refl, tiled-both false)
+      by-rule _ fits = (refl, tiled-both false)
 
 several-lanes : (p : Request) → nat_le p.lanes 1 ≡ false → is_plain p ≡ false
 several-lanes p many = grind (arith, nat_tests)
@@ -209,58 +186,28 @@ pub record IsFlatTree (p : Request) (t : Breakdown) : Type 0 where
   pub fits : FitsWhole p t
 
 -- its rule hands the request itself to both parts
-record HandsOn (p : Request) (rule : Rule) (a b : Breakdown) : Type 0 where
-  on_left : left_of rule p ≡ p
-  on_right : right_of rule p ≡ p
-  left : IsFlatTree p a
-  right : IsFlatTree p b
-
-hands_same : (p : Request) (rule : Rule) (a b : Breakdown) → IsFlatTree p (node rule a b) → left_of rule p ≡ p →
-    right_of rule p ≡ p → HandsOn p rule a b
-hands_same p rule a b h left right = record {
-  on_left = left;
-  on_right = right;
-  left = record {
-    one = h.one;
-    tree = subst (λ q. IsNodeTree q a) left (left_tree p rule a b h.tree);
-    fits = subst (λ q. FitsWhole q a) left (left_fits p rule a b h.tree);
-  };
-  right = record {
-    one = h.one;
-    tree = subst (λ q. IsNodeTree q b) right (right_tree p rule a b h.tree);
-    fits = subst (λ q. FitsWhole q b) right (right_fits p rule a b h.tree);
-  };
-}
-
-hands_on : (p : Request) (rule : Rule) (a b : Breakdown) → IsFlatTree p (node rule a b) → HandsOn p rule a b
-hands_on p Gt a b h = hands_same p Gt a b h refl refl
-hands_on p Ct a b h = hands_same p Ct a b h refl refl
-hands_on p Split a b h = hands_same p Split a b h refl refl
-hands_on p Dim a b h = absurd (h.tree.tree.2.0 h.one)
-
--- the passes of a part are those under the request that its rule hands to it
-handed : (n : ℕ) (p q : Request) (t : Breakdown) → q ≡ p →
-    ((k : ℕ) → ArePasses n p (passes_of k (layout_of p t)) (trees.passes_of p k t)) →
-    (k : ℕ) → ArePasses n p (passes_of k (layout_of q t)) (trees.passes_of p k t)
-handed n p q t is on k =
-    subst (λ r. ArePasses n p (passes_of k (layout_of r t)) (trees.passes_of p k t)) (sym is) (on k)
+flat-parts : (p : Request) (rule : Rule) (a b : Breakdown) → IsFlatTree p (node rule a b) →
+    IsFlatTree p a × IsFlatTree p b
+flat-parts p Dim a b h = absurd (h.tree.tree.2.0 h.one)
+flat-parts p rule a b h = (
+  record { one = h.one; tree = left_tree p rule a b h.tree; fits = left_fits p rule a b h.tree },
+  record { one = h.one; tree = right_tree p rule a b h.tree; fits = right_fits p rule a b h.tree },
+)
 
 -- a number of times, over n words
 module _ (n : ℕ) (p : Request) where
   pub flat_node_passes : (count : ℕ) (t : Breakdown) → IsFlatTree p t →
       ArePasses n p (passes_of count (layout_of p t)) (trees.passes_of p count t)
   flat_node_passes count (leaf d) h = leaf_passes n p count d h.tree h.fits
+  flat_node_passes count (node Dim a b) h = absurd (h.tree.tree.2.0 h.one)
   flat_node_passes count (node rule a b) h =
       let d = size_of a * size_of b in
-      let parts = hands_on p rule a b h in
-      let left = layout_of (left_of rule p) a in
-      let right = layout_of (right_of rule p) b in
-      node-pick n p rule a b (node_root p d) (node_work p (node rule a b)) left right
-      (layouts_have_size (left_of rule p) a) (layouts_have_size (right_of rule p) b)
-      (handed n p (left_of rule p) a parts.on_left (λ k. flat_node_passes k a parts.left))
-      (handed n p (right_of rule p) b parts.on_right (λ k. flat_node_passes k b parts.right)) count (is_kernel p d)
+      let parts = flat-parts p rule a b h in
+      node-pick n p rule a b (node_root p d) (node_work p (node rule a b)) (layout_of p a) (layout_of p b)
+      (layouts_have_size p a) (layouts_have_size p b) (λ k. flat_node_passes k a parts.0)
+      (λ k. flat_node_passes k b parts.1) count (is_kernel p d)
       (λ short.
-      kernel-matches n p rule a b (by rule (node_root p d) left right) count short
+      kernel-matches n p rule a b (by rule (node_root p d) (layout_of p a) (layout_of p b)) count short
       (layouts_cost p (node rule a b) h.tree h.fits))
 
   -- ---- the root
@@ -268,14 +215,13 @@ module _ (n : ℕ) (p : Request) where
   tiled-whole : (t : Breakdown) → IsFlatTree p t → size_of t ≡ p.size → is_plain p ≡ false →
       ArePasses n p (tiled_passes (layout_of p t)) (trees.tiled_passes p t)
   tiled-whole (leaf d) h whole shared = absurd (h.fits whole shared)
+  tiled-whole (node Dim a b) h whole shared = absurd (h.tree.tree.2.0 h.one)
   tiled-whole (node rule a b) h whole shared =
       let d = size_of a * size_of b in
-      let parts = hands_on p rule a b h in
-      tiled-pick n p rule a b (node_root p d) (node_work p (node rule a b)) (layout_of (left_of rule p) a)
-      (layout_of (right_of rule p) b) (layouts_have_size (left_of rule p) a) (layouts_have_size (right_of rule p) b)
-      (handed n p (left_of rule p) a parts.on_left (λ k. flat_node_passes k a parts.left))
-      (handed n p (right_of rule p) b parts.on_right (λ k. flat_node_passes k b parts.right)) (is_kernel p d)
-      (root_no_kernel p d whole shared) (h.fits whole shared)
+      let parts = flat-parts p rule a b h in
+      tiled-pick n p rule a b (node_root p d) (node_work p (node rule a b)) (layout_of p a) (layout_of p b)
+      (layouts_have_size p a) (layouts_have_size p b) (λ k. flat_node_passes k a parts.0)
+      (λ k. flat_node_passes k b parts.1) (is_kernel p d) (root_no_kernel p d whole shared) (h.fits whole shared)
 
   by-lanes : (t : Breakdown) → IsFlatTree p t → size_of t ≡ p.size → (one : Bool) → nat_le p.lanes 1 ≡ one →
       ArePasses n p (if one then passes_of 1 (layout_of p t) else tiled_passes (layout_of p t))

@@ -1,19 +1,10 @@
 -- Places in copies that any sums name: a natural place is one where the loops' variables name the copy.
-use Rattle.std.proofs.Common.{◌≡◌, ℕ, ◌+◌, ◌*◌, ◌<◌, ◌≤◌, arith, refl, sym, ap, ◌∙◌, List, [], ◌∷◌, subst}
-use Rattle.std.proofs.Common.{le-mul_of_pos_right}
-use Rattle.index_fn.specs.Mapping.{Mapping}
-use Rattle.perm_algebra.specs.Affine.{Sum, constant, variable, top, scaled, joined, Divided, simplified}
-use Rattle.perm_algebra.specs.Room.{CanScale, CanJoin, HasRoomFor}
-use Rattle.perm_algebra.proofs.AffineLaws.{top-scaled}
-use Rattle.perm_algebra.proofs.Shape.{divided-joined}
-use Rattle.perm_algebra.proofs.Sizes.{positive-product}
-use Rattle.sigma_lower.specs.TreeTerms.Wrapped.{wrapped}
-use Rattle.sigma_lower.specs.TreeLoops.Placed.{Fits, place_sum, AreCounts}
-use Rattle.sigma_lower.proofs.TreeLoops.PlaceRoom.{can_scale, can_join, can_divide, scaled-top}
+use Rattle.sigma_lower.proofs.Words.{◌≡◌, ℕ, ◌+◌, ◌*◌, ◌<◌, ◌≤◌, arith, refl, sym, ap, ◌∙◌, List, [], ◌∷◌, subst}
+use Rattle.sigma_lower.proofs.Words.{le-mul_of_pos_right, Mapping, Sum, constant, variable, top, scaled, joined}
+use Rattle.sigma_lower.proofs.Words.{Divided, simplified, HasRoomFor, divided-joined, positive-product, wrapped, Fits}
+use Rattle.sigma_lower.proofs.Words.{place_sum, AreCounts, Blocks, Columns, Path, count_of, size_under, le-times, Same}
+use Rattle.sigma_lower.proofs.TreeLoops.PlaceRoom.{room-paired, scaled-top}
 use Rattle.sigma_lower.proofs.TreeLoops.PlaceSums.{parts-fit, variable-fits}
-use Rattle.operators.specs.declared.tensor_paths.Tensor.TheVariants.{Blocks, Columns}
-use Rattle.operators.specs.TensorPaths.Path.{Path, count_of, size_under}
-use Rattle.sigma_spl.proofs.Fitting.{le-times}
 
 -- the place of e in the copy that these sums name, one for each tensor
 abbrev pub placed : Path → ℕ → List Sum → Sum → Sum
@@ -86,41 +77,27 @@ room-placed [] n us f e cs h fits made high room = room
 room-placed (t ∷ path) n [] f e cs h fits made high room = absurd h
 room-placed (Blocks c ∷ path) n (u ∷ us) f e cs h fits made high room =
     let size = size_under path n in
-    let positive : 0 < size = copies-positive path n us cs h.1 (fits-positive n e cs fits) in
     let fit = h.0 in
     let inner = placed-fits path n us e cs h.1 fits in
     let after = placed-fits path n us (simplified cs f e) cs h.1 made in
     let within : size ≤ c * size = le-times c size (omega (arith, fit.small)) in
-    let apart = divided-joined size u (placed path n us e) cs positive inner.proper inner.small in
-    let is : simplified cs (wrapped path n f) (placed path n us e) ≡ placed path n us (simplified cs f e) = simplified-placed path n us f e cs h.1 fits in
-    let whole : size * top u cs ≤ c * size = scaled-top size (top u cs) c fit.small in (
-      can_divide size u (placed path n us e) cs positive (omega arith) inner.proper inner.small,
-      tt,
-      subst (λ (z : Divided). HasRoomFor cs (wrapped path n f) z.rem) (sym apart) (room-placed path n us f e cs h.1 fits made (omega arith) room),
-      subst (λ (z : Divided). CanScale size z.quot) (sym apart) (can_scale size u cs fit.proper (omega arith)),
-      subst (λ (z : Divided). CanJoin (scaled size z.quot) (simplified cs (wrapped path n f) z.rem)) (sym apart)
-          (subst (CanJoin (scaled size u)) (sym is) (can_join (scaled size u) (placed path n us (simplified cs f e)) cs (omega (arith, top-scaled size u cs, after.small)))),
-    )
+    let whole : size * top u cs ≤ c * size = scaled-top size (top u cs) c fit.small in
+    room-paired Same (wrapped path n f) size size u (placed path n us e) u (placed path n us (simplified cs f e)) cs
+    (copies-positive path n us cs h.1 (fits-positive n e cs fits)) (omega arith) inner.proper inner.small tt
+    (room-placed path n us f e cs h.1 fits made (omega arith) room) refl (simplified-placed path n us f e cs h.1 fits)
+    fit.proper (omega (arith, after.small))
 room-placed (Columns c ∷ path) n (u ∷ us) f e cs h fits made high room =
     let size = size_under path n in
     let fit = h.0 in
-    let inner = placed-fits path n us e cs h.1 fits in
+    let to = placed path n us (simplified cs f e) in
     let after = placed-fits path n us (simplified cs f e) cs h.1 made in
-    let positive : 0 < size = copies-positive path n us cs h.1 (fits-positive n e cs fits) in
     let some : 0 < c = omega (arith, fit.small) in
     let within : size ≤ size * c = le-mul_of_pos_right {m = c} size some in
-    let count : c ≤ size * c = le-times size c positive in
-    let apart = divided-joined c (placed path n us e) u cs some fit.proper fit.small in
-    let is : simplified cs (wrapped path n f) (placed path n us e) ≡ placed path n us (simplified cs f e) = simplified-placed path n us f e cs h.1 fits in
-    let whole : c * top (placed path n us (simplified cs f e)) cs ≤ size * c = scaled-top c (top (placed path n us (simplified cs f e)) cs) size after.small in (
-      can_divide c (placed path n us e) u cs some (omega arith) fit.proper fit.small,
-      subst (λ (z : Divided). HasRoomFor cs (wrapped path n f) z.quot) (sym apart) (room-placed path n us f e cs h.1 fits made (omega arith) room),
-      tt,
-      subst (λ (z : Divided). CanScale c (simplified cs (wrapped path n f) z.quot)) (sym apart)
-          (subst (CanScale c) (sym is) (can_scale c (placed path n us (simplified cs f e)) cs after.proper (omega arith))),
-      subst (λ (z : Divided). CanJoin (scaled c (simplified cs (wrapped path n f) z.quot)) z.rem) (sym apart)
-          (subst (λ y. CanJoin (scaled c y) u) (sym is) (can_join (scaled c (placed path n us (simplified cs f e))) u cs (omega (arith, top-scaled c (placed path n us (simplified cs f e)) cs, fit.small)))),
-    )
+    let count : c ≤ size * c = le-times size c (copies-positive path n us cs h.1 (fits-positive n e cs fits)) in
+    let whole : c * top to cs ≤ size * c = scaled-top c (top to cs) size after.small in
+    room-paired (wrapped path n f) Same c c (placed path n us e) u to u cs some (omega arith) fit.proper fit.small
+    (room-placed path n us f e cs h.1 fits made (omega arith) room) tt (simplified-placed path n us f e cs h.1 fits) refl
+    after.proper (omega (arith, fit.small))
 
 -- ---- at natural places
 

@@ -1,36 +1,22 @@
 -- The passes of the layout of a request's tree count as those of the tree in the cost model.
-use Rattle.std.proofs.Common.{◌≡◌, ◌≢◌, ℕ, ◌+◌, ◌*◌, ◌%◌, ◌==◌, Bool, true, false, arith, refl, sym, ap, ap₂, ◌∙◌, List}
-use Rattle.std.proofs.Common.{[], ◌∷◌, ◌++◌, if◌then◌else◌, subst}
-use Rattle.std.specs.Prelude.{map, nat_le}
-use Rattle.std.proofs.lemmas.Bool.Decides.{nat_tests}
+use Rattle.sigma_lower.proofs.Words.{◌≡◌, ◌≢◌, ℕ, ◌+◌, ◌*◌, ◌%◌, ◌==◌, Bool, true, false, arith, refl, sym, ap, ap₂}
+use Rattle.sigma_lower.proofs.Words.{◌∙◌, List, [], ◌∷◌, ◌++◌, if◌then◌else◌, subst, map, nat_le, nat_tests, Counted}
+use Rattle.sigma_lower.proofs.Words.{works, tiles, passes_of, tiled_passes, whole_passes, forward_by, One, Kind, Idft}
+use Rattle.sigma_lower.proofs.Words.{Request, PlainWork, Layout, work, by, layout_size, layout_of, work_cost}
+use Rattle.sigma_lower.proofs.Words.{IsNodeTree, left_tree, right_tree, Breakdown, leaf, node, AllowsLeaf, is_kernel}
+use Rattle.sigma_lower.proofs.Words.{node_root, request_passes, Rule, Dim, CountsAs, AllCount, IsForwardTree}
+use Rattle.sigma_lower.proofs.Words.{layout_cost, node_work, FitsWhole, layouts_cost, layouts_have_size, left_fits}
+use Rattle.sigma_lower.proofs.Words.{is_plain, root_no_kernel, cost_in, RequestPass, pass_of, closed_by, flat_passes}
 use Rattle.std.proofs.Math.Nat.{mod_self, one-mul}
-use Rattle.sigma_lower.specs.TreeLoops.Laws.{Counted, works, tiles, passes_of, tiled_passes, whole_passes, CountsAs}
-use Rattle.sigma_lower.specs.TreeLoops.Laws.{AllCount, IsForwardTree}
 use Rattle.sigma_lower.proofs.TreeLoops.FlatCounts.{ArePasses, IsFlatTree, IsPass, flat_node_passes, flat_root_passes}
 use Rattle.sigma_lower.proofs.TreeLoops.FlatCounts.{kernel-matches}
-use Rattle.matrix_meaning.specs.Parts.{first_of, forward_by, rest_of}
-use Rattle.matrix_meaning.specs.declared.Dimensions.TheVariants.{One}
-use Rattle.matrix_meaning.specs.declared.Kind.{Kind}
-use Rattle.matrix_meaning.specs.declared.Kind.TheVariants.{Dft, Wht, Idft}
-use Rattle.matrix_meaning.specs.declared.Request.{Request}
+use Rattle.matrix_meaning.specs.Parts.{first_of, rest_of}
 use Rattle.matrix_meaning.proofs.Parts.{first_is_one}
-use Rattle.sigma_spl.specs.Work.{PlainWork}
-use Rattle.smp_rewrite.specs.LayoutSteps.Layout.{Layout, work, by, layout_size, layout_of, layout_cost, node_work}
-use Rattle.sigma_spl.specs.Shared.Costs.{work_cost}
-use Rattle.kernel_gen.specs.Nodes.{IsNodeTree}
-use Rattle.smp_rewrite.specs.LayoutSteps.Meaning.{FitsWhole}
-use Rattle.smp_rewrite.proofs.LayoutSteps.Layouts.{layouts_cost, layouts_have_size}
-use Rattle.kernel_gen.proofs.NodeTrees.{HasFields, left_fields, left_tree, rest_is_part, right_fields, right_tree}
-use Rattle.smp_rewrite.proofs.LayoutSteps.NodeTrees.{left_fits, plain_fits}
-use Rattle.tree_model.specs.Breakdown.{Breakdown, leaf, node, size_of, AllowsLeaf, AllowsRule}
-use Rattle.tree_model.specs.Cost.{is_kernel, is_plain, node_root}
-use Rattle.tree_model.proofs.PassLaws.{root_no_kernel}
+use Rattle.kernel_gen.proofs.NodeTrees.{HasFields, left_fields, rest_is_part, right_fields}
+use Rattle.smp_rewrite.proofs.LayoutSteps.NodeTrees.{plain_fits}
+use Rattle.tree_model.specs.Breakdown.{size_of, AllowsRule}
+use Rattle.tree_model.specs.WholePasses.{node_passes, passes_in, shared_passes}
 use Rattle.tree_model.specs.Passes as trees
-use Rattle.tree_model.specs.Whole.{cost_in}
-use Rattle.tree_model.specs.WholePasses.{RequestPass, pass_of, closed_by, flat_passes, node_passes, passes_in}
-use Rattle.tree_model.specs.WholePasses.{shared_passes, request_passes}
-use Rattle.tree_model.specs.declared.tree.Rule.{Rule}
-use Rattle.tree_model.specs.declared.tree.Rule.TheVariants.{Gt, Ct, Split, Dim}
 
 -- fields of a request, of the request for a part, and of that for a part of the part
 fields-both : (c p q : Request) → HasFields c p → HasFields p q → HasFields c q
@@ -48,19 +34,15 @@ module _ (c : Request) where
         (ap (λ y. if y then p.weight * c.size else 0) h.1);
     loads = h.0.loads;
   }
-  pass-counts p (works k w b) (trees.tiles d) like h = absurd h
-  pass-counts p (tiles b) (trees.nodes count t d) like h = absurd h
-  pass-counts p (tiles b) (trees.tiles d) like h = record {
-    operations = ap₂ (λ x y. if y then x * c.size else 0) (sym like.weight) h;
-    loads = refl;
-  }
+  pass-counts p (tiles b) (trees.tiles d) like h =
+      record { operations = ap₂ (λ x y. if y then x * c.size else 0) (sym like.weight) h; loads = refl }
+  pass-counts p _ _ like h = absurd h
 
   all-count : (p : Request) (zs : List Counted) (qs : List trees.Pass) → HasFields c p → ArePasses c.size p zs qs →
       AllCount c zs (map (pass_of p) qs)
   all-count p [] [] like h = tt
-  all-count p [] (q ∷ qs) like h = absurd h
-  all-count p (z ∷ zs) [] like h = absurd h
   all-count p (z ∷ zs) (q ∷ qs) like h = (pass-counts p z q like h.0, all-count p zs qs like h.1)
+  all-count p _ _ like h = absurd h
 
   -- a node of one size, `count` times
   node-counts : (p : Request) (count : ℕ) (t : Breakdown) → HasFields c p → IsFlatTree p t →
@@ -74,9 +56,8 @@ module _ (c : Request) where
   counts-append : (zs rest : List Counted) (qs more : List RequestPass) → AllCount c zs qs → AllCount c rest more →
       AllCount c (zs ++ rest) (qs ++ more)
   counts-append [] rest [] more h k = k
-  counts-append [] rest (q ∷ qs) more h k = absurd h
-  counts-append (z ∷ zs) rest [] more h k = absurd h
   counts-append (z ∷ zs) rest (q ∷ qs) more h k = (h.0, counts-append zs rest qs more h.1 k)
+  counts-append _ rest _ more h k = absurd h
 
   tile-counts : (p : Request) → CountsAs c (tiles false) (pass_of p (trees.tiles false))
   tile-counts p = record { operations = refl; loads = refl }
@@ -127,8 +108,7 @@ module _ (c : Request) where
         else passes_in (rest_of p) (k * size_of a) b ++ node_passes (first_of p) (k * size_of b) a)
     dim-pick k root w true true e h = (h refl, tt)
     dim-pick k root w false false e h = both (λ n. k * n)
-    dim-pick k root w true false e h = absurd (cc)
-    dim-pick k root w false true e h = absurd (cc)
+    dim-pick k root w _ _ e h = absurd (cc)
 
     -- the whole of a dim that processors or lanes share
     shared-pick : (root : ℕ) (one : Bool) →
@@ -167,10 +147,6 @@ module _ (c : Request) where
 
   all-in : (p : Request) (count : ℕ) (t : Breakdown) → HasFields c p → IsNodeTree p t → is_plain p ≡ true →
       AllCount c (passes_of count (layout_of p t)) (passes_in p count t)
-  all-in p count (leaf d) like h plain = alone-counts p count (leaf d) like h plain h.tree.0
-  all-in p count (node Gt a b) like h plain = alone-counts p count (node Gt a b) like h plain h.tree.2.0
-  all-in p count (node Ct a b) like h plain = alone-counts p count (node Ct a b) like h plain h.tree.2.0
-  all-in p count (node Split a b) like h plain = alone-counts p count (node Split a b) like h plain h.tree.2.0
   all-in p count (node Dim a b) like h plain =
       let d = size_of a * size_of b in
       let first = left_tree p Dim a b h in
@@ -186,6 +162,8 @@ module _ (c : Request) where
       (node_work p (node Dim a b)) (is_kernel p d) (nat_le d p.unroll) (alone-kernel p d plain)
       (λ short. dim-code p a b (by Dim (node_root p d) (layout_of (first_of p) a) (layout_of (rest_of p) b)) count like
       short cost)
+  all-in p count (node rule a b) like h plain = alone-counts p count (node rule a b) like h plain h.tree.2.0
+  all-in p count (leaf d) like h plain = alone-counts p count (leaf d) like h plain h.tree.0
 
 -- ---- the whole, of one size
 
@@ -193,9 +171,8 @@ module _ (c : Request) where
 open-passes : (kind : Kind) (p : Request) (t : Breakdown) → kind ≢ Idft →
     map (pass_of (forward_by kind p)) (closed_by kind (trees.whole_passes (forward_by kind p) t))
     ≡ map (pass_of p) (trees.whole_passes p t)
-open-passes Dft p t forward = refl
-open-passes Wht p t forward = refl
 open-passes Idft p t forward = absurd (forward refl)
+open-passes _ p t forward = refl
 
 no-inverse-leaf : (kind : Kind) (d : ℕ) → AllowsLeaf kind d → kind ≢ Idft
 no-inverse-leaf kind d h is = subst (λ k. AllowsLeaf k d) is h
@@ -277,10 +254,6 @@ module _ (p : Request) (a b : Breakdown) (h : IsForwardTree p (node Dim a b)) wh
 pub layouts_count : (p : Request) (t : Breakdown) → IsForwardTree p t →
     AllCount p (whole_passes p.lanes (layout_of p t)) (request_passes p t)
 layouts_count p (leaf d) h = flat-counts p (leaf d) h h.tree.0 (no-inverse-leaf p.kind d h.tree.1)
-layouts_count p (node Gt a b) h =
-    flat-counts p (node Gt a b) h h.tree.2.0 (no-inverse-rule p.kind Gt (size_of a) (size_of b) h.tree.2.1)
-layouts_count p (node Ct a b) h =
-    flat-counts p (node Ct a b) h h.tree.2.0 (no-inverse-rule p.kind Ct (size_of a) (size_of b) h.tree.2.1)
-layouts_count p (node Split a b) h =
-    flat-counts p (node Split a b) h h.tree.2.0 (no-inverse-rule p.kind Split (size_of a) (size_of b) h.tree.2.1)
 layouts_count p (node Dim a b) h = dim-whole p a b h (is_plain p) refl
+layouts_count p (node rule a b) h =
+    flat-counts p (node rule a b) h h.tree.2.0 (no-inverse-rule p.kind rule (size_of a) (size_of b) h.tree.2.1)

@@ -1,26 +1,17 @@
 -- The places of the left part of a shared root: those of the part alone, in the copies that processors, lanes and loops name.
-use Rattle.std.proofs.Common.{◌≡◌, ℕ, ◌+◌, ◌*◌, ◌/◌, ◌<◌, ◌≤◌, arith, refl, sym, ap, ap₂, ◌∙◌, List, [], ◌∷◌, ◌++◌}
-use Rattle.std.proofs.Common.{length, if◌then◌else◌, subst, mul_comm}
-use Rattle.std.specs.Prelude.{◌==◌, map, Option, None, Some}
-use Rattle.std.specs.Option.{option_map}
-use Rattle.index_fn.specs.Mapping.{Mapping}
-use Rattle.operators.specs.declared.target.Target.{Target}
-use Rattle.sigma_spl.specs.Limits.{AreSeveral}
-use Rattle.perm_algebra.specs.Affine.{Sum, constant, variable, scaled, joined, Divided, simplified}
-use Rattle.perm_algebra.specs.Room.{CanScale, CanJoin, HasRoomFor}
-use Rattle.perm_algebra.proofs.AffineLaws.{top-scaled}
-use Rattle.perm_algebra.proofs.Shape.{divided-joined}
-use Rattle.perm_algebra.proofs.Sizes.{joined-end, scaled-one}
-use Rattle.std.proofs.lemmas.Option.{same_Some}
-use Rattle.sigma_lower.specs.TreeLoops.Merge.{PlainDiagonal, PlainPass}
-use Rattle.sigma_lower.specs.TreeLoops.Placed.{Fits, IsCarried, place_sum, AreCounts, all_simplified, diagonal_places}
-use Rattle.sigma_lower.specs.TreeLoops.Placed.{IsLimitedPass}
+use Rattle.sigma_lower.proofs.Words.{◌≡◌, ℕ, ◌+◌, ◌*◌, ◌/◌, ◌<◌, ◌≤◌, arith, refl, sym, ap, ap₂, ◌∙◌, List, [], ◌∷◌}
+use Rattle.sigma_lower.proofs.Words.{◌++◌, length, if◌then◌else◌, subst, mul_comm, ◌==◌, map, Option, None, Some}
+use Rattle.sigma_lower.proofs.Words.{option_map, Mapping, Target, AreSeveral, Sum, constant, variable, scaled, joined}
+use Rattle.sigma_lower.proofs.Words.{Divided, simplified, HasRoomFor, divided-joined, joined-end, scaled-one, same_Some}
+use Rattle.sigma_lower.proofs.Words.{PlainDiagonal, PlainPass, Fits, IsCarried, place_sum, AreCounts, all_simplified}
+use Rattle.sigma_lower.proofs.Words.{diagonal_places, IsLimitedPass, left_path, work_size, inner_of, Blocks, Columns}
+use Rattle.sigma_lower.proofs.Words.{Path, grown, size_under, Always}
 use Rattle.sigma_lower.proofs.TreeLoops.InCopies.{placed, AreCopies, placed-fits}
 use Rattle.sigma_lower.proofs.TreeLoops.LineMoves.{LeadsTo, AreThree, leads-none, leads-step, leads-join, leads-same}
 use Rattle.sigma_lower.proofs.TreeLoops.LineMoves.{dealt-leads}
 use Rattle.sigma_lower.proofs.TreeLoops.Moved.{placed-columns}
 use Rattle.sigma_lower.proofs.TreeLoops.PlaceLimits.{IsMultiplied, IsPlacedPass}
-use Rattle.sigma_lower.proofs.TreeLoops.PlaceRoom.{can_scale, can_join, can_divide}
+use Rattle.sigma_lower.proofs.TreeLoops.PlaceRoom.{room-paired}
 use Rattle.sigma_lower.proofs.TreeLoops.PlaceSums.{parts-fit, size-positive}
 use Rattle.sigma_lower.proofs.TreeLoops.RightPlaces.{wide-all}
 use Rattle.sigma_lower.proofs.TreeLoops.RootPasses.{on_all, if_dealt, left_diagonal, left_pass}
@@ -29,11 +20,6 @@ use Rattle.sigma_lower.proofs.TreeLoops.RootShares.{columns_high, rows_high}
 use Rattle.sigma_lower.proofs.TreeLoops.Staying.{StaysIn, stays-begin, carried-end, carried-push}
 use Rattle.sigma_lower.proofs.TreeLoops.WithinPlaces.{size-all, simplified-within, room-within, natural-placed}
 use Rattle.sigma_lower.proofs.TreeLoops.WithinPlaces.{natural-copies}
-use Rattle.sigma_lower.specs.TreeTerms.Root.{left_path}
-use Rattle.sigma_spl.specs.Work.{work_size}
-use Rattle.sigma_lower.specs.TreeTerms.Wrapped.{inner_of}
-use Rattle.operators.specs.declared.tensor_paths.Tensor.TheVariants.{Blocks, Columns}
-use Rattle.operators.specs.TensorPaths.Path.{Path, grown, size_under}
 
 -- ---- a longer path
 
@@ -188,21 +174,13 @@ module _ (size p v m s : ℕ) (h : AreShares size p v m s) where
       HasRoomFor cs (inner_of path n) y → Fits n (simplified cs (inner_of path n) y) cs →
       HasRoomFor cs (inner_of (Columns s ∷ path) n) (placed whole m (sp.lane ∷ sp.column ∷ []) y)
   room-whole cs sp path n y fits low room made =
-      let u : Sum = joined (scaled v sp.column) sp.lane in
       let z : Sum = simplified cs (inner_of path n) y in
       let is = numbered cs sp.lane sp.column y sp.copies.0 sp.copies.1.0 in
-      let some : 0 < s = omega (arith, h.right) in
       let high : s ≤ 1048576 = omega (arith, columns_high size p v m s h) in
-      let apart = divided-joined s y u cs some is.fits.proper is.fits.small in
-      subst (HasRoomFor cs (inner_of (Columns s ∷ path) n)) (sym is.same) (
-        can_divide s y u cs some (omega arith) is.fits.proper is.fits.small,
-        subst (λ (d : Divided). HasRoomFor cs (inner_of path n) d.quot) (sym apart) room,
-        tt,
-        subst (λ (d : Divided). CanScale 1 (simplified cs (inner_of path n) d.quot)) (sym apart)
-            (can_scale 1 z cs made.proper (omega (arith, made.small))),
-        subst (λ (d : Divided). CanJoin (scaled 1 (simplified cs (inner_of path n) d.quot)) (constant 0)) (sym apart)
-            (can_join (scaled 1 z) (constant 0) cs (omega (arith, top-scaled 1 z cs, made.small))),
-      )
+      subst (HasRoomFor cs (inner_of (Columns s ∷ path) n)) (sym is.same)
+      (room-paired (inner_of path n) (Always 0) s 1 y (joined (scaled v sp.column) sp.lane) z (constant 0) cs
+      (omega (arith, h.right)) (omega arith) is.fits.proper is.fits.small room tt refl refl made.proper
+      (omega (arith, made.small)))
 
   -- the places of a diagonal within the part are those in all copies
   left_multiplied : (cs : ℕ → ℕ) (sp : Spread cs 0) (q : PlainPass) (e : Sum) (o : PlainDiagonal) →

@@ -1,26 +1,15 @@
 -- The permutations of lines and of vectors, at natural places: each puts the sums that name a copy into another order.
-use Rattle.std.proofs.Common.{◌≡◌, ℕ, ◌*◌, ◌/◌, ◌%◌, ◌<◌, ◌≤◌, Bool, true, false, arith, refl, sym, ap, ap₂, ◌∙◌, List}
-use Rattle.std.proofs.Common.{[], ◌∷◌, ◌++◌, if◌then◌else◌, subst, mul_comm, mod-lt, div-lt_iff_lt-mul}
-use Rattle.std.specs.Prelude.{◌==◌}
-use Rattle.std.proofs.Math.Nat.{div-add-mod'}
-use Rattle.index_fn.specs.Mapping.{Mapping, Strided}
-use Rattle.operators.proofs.Lists.{factor_positive}
-use Rattle.perm_algebra.specs.Affine.{Sum, constant, scaled, joined, simplified}
-use Rattle.perm_algebra.specs.Room.{HasRoomFor}
-use Rattle.perm_algebra.proofs.Shape.{turned-joined}
-use Rattle.perm_algebra.proofs.Sizes.{positive-product}
-use Rattle.sigma_lower.specs.TreeLoops.Placed.{Fits, all_simplified}
+use Rattle.sigma_lower.proofs.Words.{◌≡◌, ℕ, ◌*◌, ◌/◌, ◌%◌, ◌<◌, ◌≤◌, Bool, true, false, arith, refl, sym, ap, ap₂, ◌∙◌}
+use Rattle.sigma_lower.proofs.Words.{List, [], ◌∷◌, ◌++◌, if◌then◌else◌, subst, mul_comm, mod-lt, div-lt_iff_lt-mul}
+use Rattle.sigma_lower.proofs.Words.{◌==◌, div-add-mod', Mapping, Strided, factor_positive, Sum, constant, scaled}
+use Rattle.sigma_lower.proofs.Words.{joined, simplified, HasRoomFor, positive-product, Fits, all_simplified, wrapped}
+use Rattle.sigma_lower.proofs.Words.{is-one, within_all, Blocks, Columns, Path, size_under, AreBlocks, turned-joined}
 use Rattle.sigma_lower.proofs.TreeLoops.InCopies.{placed, AreCopies, placed-fits}
 use Rattle.sigma_lower.proofs.TreeLoops.Moved.{joined-assoc, scaled-joined, scaled-scaled, placed-swap}
 use Rattle.sigma_lower.proofs.TreeLoops.PlaceSums.{parts-fit}
 use Rattle.sigma_lower.proofs.TreeLoops.RuleRoom.{strided-room}
 use Rattle.sigma_lower.proofs.TreeLoops.Staying.{StaysIn, stays-join, all_simplified-join}
 use Rattle.sigma_lower.proofs.TreeLoops.WithinPlaces.{one-copy, simplified-within, room-within}
-use Rattle.sigma_lower.specs.TreeTerms.Wrapped.{wrapped}
-use Rattle.smp_rewrite.proofs.Tensors.{is-one, within_all}
-use Rattle.operators.specs.declared.tensor_paths.Tensor.TheVariants.{Blocks, Columns}
-use Rattle.operators.specs.TensorPaths.Path.{Path, size_under}
-use Rattle.sigma_spl.specs.Good.{AreBlocks}
 
 -- ---- functions that lead from one sum to another, within n
 
@@ -151,8 +140,6 @@ blocks-size (Columns b ∷ path) n c h = absurd h
 -- columns inside of blocks, as columns of them
 columns-outside : (path : Path) (n c : ℕ) (us : List Sum) (e w : Sum) → AreBlocks path →
     placed path (n * c) us (joined (scaled c e) w) ≡ joined (scaled c (placed path n us e)) w
-columns-outside [] n c us e w h = refl
-columns-outside (Blocks b ∷ path) n c [] e w h = refl
 columns-outside (Blocks b ∷ path) n c (u ∷ us) e w h =
     let inner = placed path n us e in
     let size = size_under path n in
@@ -161,6 +148,7 @@ columns-outside (Blocks b ∷ path) n c (u ∷ us) e w h =
     ∙ sym (joined-assoc (scaled c (scaled size u)) (scaled c inner) w)
     ∙ ap (λ g. joined g w) (sym (scaled-joined c (scaled size u) inner))
 columns-outside (Columns b ∷ path) n c us e w h = absurd h
+columns-outside _ n c _ e w h = refl
 
 -- an item of a tile is in a row and a column
 pub tile-item : (v k : ℕ) → constant k ≡ joined (scaled v (constant (k / v))) (constant (k % v))

@@ -1,26 +1,16 @@
 -- The items of a layout's loops: what their variables run below, and the sums that name an item.
-use Rattle.std.proofs.Common.{◌≡◌, ℕ, zero, suc, ◌+◌, ◌*◌, ◌<◌, ◌≤◌, arith, refl, sym, ap, ◌∙◌, List, [], ◌∷◌, ◌++◌}
-use Rattle.std.proofs.Common.{length, Some}
-use Rattle.std.specs.Prelude.{map, slice_index}
+use Rattle.sigma_lower.proofs.Words.{◌≡◌, ℕ, zero, suc, ◌+◌, ◌*◌, ◌<◌, ◌≤◌, arith, refl, sym, ap, ◌∙◌, List, [], ◌∷◌}
+use Rattle.sigma_lower.proofs.Words.{◌++◌, length, Some, map, slice_index, PlainDiagonal, PlainPass, Fits, AreCounts}
+use Rattle.sigma_lower.proofs.Words.{right_positive, place_below, AreSeveral, limits_in, loop_of, items_out, PlainWork}
+use Rattle.sigma_lower.proofs.Words.{kernel, rows, tile, work_size, trees_of, Sum, constant, trees_size, Blocks}
+use Rattle.sigma_lower.proofs.Words.{Columns, Path, copies_of, count_of, size_under-copies, items_in}
 use Rattle.std.specs.List.{range_with_len}
-use Rattle.sigma_lower.specs.TreeLoops.Merge.{PlainDiagonal, PlainPass}
-use Rattle.sigma_lower.specs.TreeLoops.Placed.{Fits, AreCounts, IsName}
+use Rattle.sigma_lower.specs.TreeLoops.Placed.{IsName}
 use Rattle.sigma_lower.proofs.TreeLoops.LineMoves.{number-fits}
 use Rattle.sigma_lower.proofs.TreeLoops.PlaceSums.{variable-fits}
-use Rattle.sigma_spl.proofs.Keeps.{right_positive}
 use Rattle.sigma_lower.proofs.TreeLoops.Shaped.{IsShaped, IsShapedWork}
-use Rattle.operators.proofs.Lists.{place_below}
-use Rattle.sigma_spl.specs.Limits.{AreSeveral}
-use Rattle.sigma_spl.specs.Loops.{limits_in}
-use Rattle.sigma_lower.specs.TreeLoops.Nests.{loop_of}
-use Rattle.sigma_spl.specs.Merge.{items_in, items_out}
-use Rattle.sigma_spl.specs.Work.{PlainWork, kernel, rows, horner, tile, copy, work_size, PlainKernel, trees_of}
-use Rattle.perm_algebra.specs.Affine.{Sum, constant}
-use Rattle.tree_model.specs.Trees.{trees_size}
+use Rattle.sigma_spl.specs.Work.{PlainKernel}
 use Rattle.sigma_lower.proofs.TreeTerms.Lowering.{part-le}
-use Rattle.operators.specs.declared.tensor_paths.Tensor.TheVariants.{Blocks, Columns}
-use Rattle.operators.specs.TensorPaths.Path.{Path, copies_of, count_of}
-use Rattle.operators.proofs.TensorPaths.Under.{size_under-copies}
 use Rattle.sigma_spl.proofs.Limited.{at-row, at-column}
 
 -- ---- diagonals
@@ -69,11 +59,8 @@ AllName w cs n (e ∷ es) = Names w cs n e × AllName w cs n es
 
 -- a tile names numbers, and other work anything
 pub name-constant : (w : PlainWork) (k : ℕ) → IsName w (constant k)
-name-constant (kernel trees) k = tt
-name-constant (rows root size) k = tt
-name-constant (horner root size) k = tt
 name-constant (tile v) k = (k, refl)
-name-constant (copy size) k = tt
+name-constant _ k = tt
 
 constants-name : (w : PlainWork) (cs : ℕ → ℕ) (n : ℕ) (g : ℕ → ℕ) (a len : ℕ) → ((i : ℕ) → i < a + len → g i < n) →
     AllName w cs n (map (λ i. constant (g i)) (range_with_len a len))
@@ -104,9 +91,8 @@ rows-names path root n two =
 pub names-of : (m : ℕ) (path : Path) (w : PlainWork) → IsShapedWork m w → HaveNames path w
 names-of m path (kernel trees) h = kernel-names path trees
 names-of m path (rows root size) h = rows-names path root size h.0
-names-of m path (horner root size) h = absurd h
 names-of m path (tile v) h =
     let cs : ℕ → ℕ = slice_index (map count_of path ++ v * v ∷ v * v ∷ []) in
     let all = constants-name (tile v) cs (v * v) (λ k. k * v) 0 v (λ k low. let below = place_below k 0 v v (omega (arith, low)) (omega (arith, low)) in omega (arith, below)) in
     record { loads = all; stores = all }
-names-of m path (copy size) h = absurd h
+names-of m path _ h = absurd h

@@ -1,33 +1,21 @@
 -- No place of a layout's loops is over a limit.
-use Rattle.std.proofs.Common.{◌≡◌, ℕ, ◌*◌, ◌≤◌, Bool, true, arith, refl, sym, List, [], ◌∷◌, ◌++◌, length}
-use Rattle.std.proofs.Common.{subst, Some}
-use Rattle.std.specs.Prelude.{map, reverse}
-use Rattle.std.specs.List.{list_all}
-use Rattle.std.proofs.lemmas.List.{reverse-append}
-use Rattle.std.proofs.lemmas.Bool.{and_from}
-use Rattle.index_fn.specs.Mapping.{Mapping}
-use Rattle.sigma_lower.specs.TreeLoops.Limits.{AreLimitedPhases, LoopsAreLimited}
-use Rattle.sigma_lower.specs.TreeLoops.Merge.{PlainDiagonal, PlainPass, passes_of_terms, in_order, merged_of}
-use Rattle.sigma_lower.specs.TreeLoops.Nests.{loop_of, taken_of}
-use Rattle.sigma_lower.specs.TreeLoops.Placed.{ArePlacesLimited, IsCarried, IsLimitedPass, AllLimited, diagonal_places}
-use Rattle.sigma_lower.specs.TreeLoops.Placed.{place_sum}
+use Rattle.sigma_lower.proofs.Words.{◌≡◌, ℕ, ◌*◌, ◌≤◌, Bool, true, arith, refl, sym, List, [], ◌∷◌, ◌++◌, length, subst}
+use Rattle.sigma_lower.proofs.Words.{Some, map, reverse, reverse-append, and_from, Mapping, PlainDiagonal, PlainPass}
+use Rattle.sigma_lower.proofs.Words.{passes_of_terms, in_order, merged_of, loop_of, taken_of, IsCarried, IsLimitedPass}
+use Rattle.sigma_lower.proofs.Words.{diagonal_places, place_sum, Target, IsMachine, PlainLoop, PlainTaken, limits_in}
+use Rattle.sigma_lower.proofs.Words.{IsLimitedLoop, AreLimitedLoops, most, items_out, factor_count, Sum, simplified}
+use Rattle.sigma_lower.proofs.Words.{PlainTerm, lowered_of, PlainWork, work_size, CanShareLayout, Layout, IsGoodLayout}
+use Rattle.sigma_lower.proofs.Words.{list_all, AreLimitedPhases, ArePlacesLimited, items_in, carries_sum}
+use Rattle.sigma_lower.specs.TreeLoops.Limits.{LoopsAreLimited}
+use Rattle.sigma_lower.proofs.TreeLoops.PassLists.{all-split}
 use Rattle.sigma_lower.proofs.TreeLoops.LeftPlaces.{mapped-some}
 use Rattle.sigma_lower.proofs.TreeLoops.LoopItems.{Names, AllName, HaveNames, diagonal-size, names-of, pass-counts}
 use Rattle.sigma_lower.proofs.TreeLoops.LoopNests.{loops_listed}
-use Rattle.sigma_lower.proofs.TreeLoops.Shaped.{IsShaped, IsShapedWork, AreShaped}
+use Rattle.sigma_lower.proofs.TreeLoops.Shaped.{IsShaped, IsShapedWork}
 use Rattle.sigma_lower.proofs.TreeLoops.TameSums.{fits-limited}
+use Rattle.sigma_lower.proofs.TreeLoops.RootPlaces.{HaveGoodPlaces, IsGoodPlace}
 use Rattle.sigma_lower.proofs.TreeLoops.TreePlaces.{tree_good_places}
-use Rattle.operators.specs.declared.target.Target.{Target}
-use Rattle.sigma_lower.specs.Machine.{IsMachine}
-use Rattle.sigma_spl.specs.Loops.{PlainLoop, PlainTaken, limits_in, IsLimitedLoop, AreLimitedLoops}
-use Rattle.sigma_spl.specs.Merge.{most, items_in, items_out, carries_sum}
-use Rattle.sigma_spl.specs.Nest.{factor_count}
-use Rattle.perm_algebra.specs.Affine.{Sum, simplified}
 use Rattle.perm_algebra.proofs.RoomTests.{room_decided}
-use Rattle.sigma_lower.specs.TreeTerms.Term.{PlainTerm, lowered_of}
-use Rattle.sigma_spl.specs.Work.{PlainWork, work_size}
-use Rattle.smp_rewrite.specs.Fits.{CanShareLayout}
-use Rattle.smp_rewrite.specs.LayoutSteps.Layout.{Layout, IsGoodLayout}
 
 -- ---- the tests
 
@@ -86,14 +74,15 @@ module _ (room : ℕ) (enough : 40 ≤ room) (c : Target) (p : PlainPass) (machi
 -- ---- the passes of a tree
 
 limited_loops : (room : ℕ) (c : Target) (ps : List PlainPass) → 40 ≤ room → IsMachine c →
-    AreShaped (IsShapedWork c.modulus) c.size ps → AllLimited c ps → AreLimitedLoops (most room) c.size (map loop_of ps)
-limited_loops room c [] enough machine shapes h = tt
-limited_loops room c (p ∷ ps) enough machine shapes h = (limited_loop room enough c p machine shapes.0 h.0, limited_loops room c ps enough machine shapes.1 h.1)
+    HaveGoodPlaces c (IsShapedWork c.modulus) ps → AreLimitedLoops (most room) c.size (map loop_of ps)
+limited_loops room c [] enough machine h = tt
+limited_loops room c (p ∷ ps) enough machine h =
+    (limited_loop room enough c p machine h.0.shaped h.0.limited, limited_loops room c ps enough machine h.1)
 
 pub tree_loops : (room : ℕ) (c : Target) (l : Layout) → 40 ≤ room → IsMachine c → CanShareLayout c l →
     IsGoodLayout c.modulus l → AreLimitedLoops (most room) c.size (map loop_of (merged_of c l))
 tree_loops room c l enough machine shares good =
-    let places = tree_good_places c l shares good in limited_loops room c (merged_of c l) enough machine places.shaped places.limited
+    limited_loops room c (merged_of c l) enough machine (tree_good_places c l shares good)
 
 -- ---- the loops of a phase, the latest first
 
@@ -107,18 +96,16 @@ limited-reverse : (n : ℕ) (ps : List PlainLoop) → AreLimitedLoops (most 64) 
 limited-reverse n [] h = tt
 limited-reverse n (p ∷ ps) h = subst (AreLimitedLoops (most 64) n) (sym (reverse-append (p ∷ []) ps)) (limited-append n (reverse ps) (p ∷ []) (limited-reverse n ps h.1) (h.0, tt))
 
-limited-split : (c : Target) (ps qs : List PlainPass) → AreLimitedLoops (most 64) c.size (map loop_of (ps ++ qs)) →
-    AreLimitedLoops (most 64) c.size (map loop_of ps) × AreLimitedLoops (most 64) c.size (map loop_of qs)
-limited-split c [] qs h = (tt, h)
-limited-split c (p ∷ ps) qs h = let more = limited-split c ps qs h.1 in ((h.0, more.0), more.1)
-
-limited_phases : (c : Target) (phases : List (List PlainTerm)) →
-    AreLimitedLoops (most 64) c.size (map loop_of (in_order (map passes_of_terms phases))) → AreLimitedPhases c phases
-limited_phases c [] h = tt
-limited_phases c (ts ∷ more) h =
+limited_phases : (c : Target) (phases : List (List PlainTerm)) → IsMachine c →
+    HaveGoodPlaces c (IsShapedWork c.modulus) (in_order (map passes_of_terms phases)) → AreLimitedPhases c phases
+limited_phases c [] machine h = tt
+limited_phases c (ts ∷ more) machine h =
     let ps = passes_of_terms ts in
-    let parts = limited-split c ps (in_order (map passes_of_terms more)) h in
-    (subst (AreLimitedLoops (most 64) c.size) (sym (loops_listed ts)) (limited-reverse c.size (map loop_of ps) parts.0), limited_phases c more parts.1)
+    let parts = all-split (IsGoodPlace c (IsShapedWork c.modulus)) ps (in_order (map passes_of_terms more)) h in
+    let limited = limited_loops 64 c ps (omega arith) machine parts.0 in (
+      subst (AreLimitedLoops (most 64) c.size) (sym (loops_listed ts)) (limited-reverse c.size (map loop_of ps) limited),
+      limited_phases c more machine parts.1,
+    )
 
 pub loops_are_limited : LoopsAreLimited
-loops_are_limited c l machine shares good = limited_phases c (lowered_of c l) (tree_loops 64 c l (omega arith) machine shares good)
+loops_are_limited c l machine shares good = limited_phases c (lowered_of c l) machine (tree_good_places c l shares good)

@@ -1,16 +1,10 @@
 -- The loops of a phase's term are its passes, the latest first.
-use Rattle.std.proofs.Common.{◌≡◌, refl, sym, ap, ◌∙◌, List, [], ◌∷◌, ◌++◌, Some}
-use Rattle.std.specs.Prelude.{map, reverse}
-use Rattle.std.proofs.lemmas.List.{map-append, reverse-append}
-use Rattle.sigma_lower.specs.Shared.{embed, phase_term}
-use Rattle.index_fn.specs.Mapping.{Mapping}
-use Rattle.sigma_lower.specs.TreeLoops.Merge.{PlainPass, Merging, new_pass, scattered, multiplied, at_last, merge_term}
-use Rattle.sigma_lower.specs.TreeLoops.Merge.{merged, passes_of_terms}
-use Rattle.sigma_lower.specs.TreeLoops.Nests.{loop_of}
-use Rattle.sigma_spl.specs.Loops.{PlainLoop, Looping, stored_last, scaled_last, looped, loops_in}
-use Rattle.sigma_spl.specs.Nest.{PlainFactors, factor_count, twiddles, inner_of}
-use Rattle.sigma_lower.specs.TreeTerms.Term.{PlainTerm, gath, scat, diag, nest}
-use Rattle.operators.specs.TensorPaths.Path.{Path}
+use Rattle.sigma_lower.proofs.Words.{◌≡◌, refl, sym, ap, ◌∙◌, List, [], ◌∷◌, ◌++◌, Some, map, reverse, map-append}
+use Rattle.sigma_lower.proofs.Words.{reverse-append, embed, phase_term, Mapping, PlainPass, Merging, new_pass}
+use Rattle.sigma_lower.proofs.Words.{scattered, multiplied, at_last, merge_term, merged, passes_of_terms, loop_of}
+use Rattle.sigma_lower.proofs.Words.{PlainLoop, scaled_last, loops_in, factor_count, PlainTerm, gath, scat, diag, nest}
+use Rattle.sigma_lower.proofs.Words.{Path, inner_of, Looping, stored_last, looped, PlainFactors}
+use Rattle.sigma_spl.specs.Nest.{twiddles}
 
 -- ---- the first of a list from its end
 

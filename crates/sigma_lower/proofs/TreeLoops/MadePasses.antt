@@ -1,27 +1,16 @@
 -- The terms of a layout's steps are merged into its passes. Terms that make each function, each pass and the path of
 -- each diagonal another are merged into such passes: so those of a root's left part into the passes of its layout, each
 -- in all copies.
-use Rattle.std.proofs.Common.{◌≡◌, ℕ, ◌*◌, List, [], ◌∷◌, ◌++◌, refl, sym, ap, ap₂, subst, ◌∙◌}
-use Rattle.std.proofs.Common.{append_assoc, append-nil}
-use Rattle.std.specs.Prelude.{map}
-use Rattle.std.proofs.lemmas.List.{map-append, map-id}
-use Rattle.index_fn.specs.Mapping.{Mapping, Strided, ThomasIn}
-use Rattle.sigma_lower.specs.TreeLoops.Merge.{PlainPass, Merging, new_pass, scattered, multiplied, at_last, merge_term}
-use Rattle.sigma_lower.specs.TreeLoops.Merge.{merged, passes_of_terms}
-use Rattle.sigma_lower.specs.TreeTerms.Term.{PlainTerm, gath, scat, diag, lowered}
-use Rattle.sigma_lower.specs.TreeTerms.Wrapped.{wrapped}
+use Rattle.sigma_lower.proofs.Words.{◌≡◌, ℕ, ◌*◌, List, [], ◌∷◌, ◌++◌, refl, sym, ap, ap₂, subst, ◌∙◌, append_assoc}
+use Rattle.sigma_lower.proofs.Words.{append-nil, map, map-append, Mapping, Strided, ThomasIn, PlainPass, Merging}
+use Rattle.sigma_lower.proofs.Words.{new_pass, scattered, multiplied, at_last, merge_term, merged, passes_of_terms}
+use Rattle.sigma_lower.proofs.Words.{PlainTerm, gath, scat, diag, lowered, wrapped, PlainWork, Layout, work, by}
+use Rattle.sigma_lower.proofs.Words.{layout_size, PlainStep, piece, step, turns, twiddles, thomas_in, thomas_out}
+use Rattle.sigma_lower.proofs.Words.{rule_steps, steps_of, Blocks, Columns, Path, size_under, size_under-push, Rule, Gt}
+use Rattle.sigma_lower.proofs.Words.{Ct, map-id}
 use Rattle.sigma_lower.proofs.TreeLoops.Emitted.{Emission, as_lowered, emitted, emitted-lowered, merged-steps}
 use Rattle.sigma_lower.proofs.TreeLoops.TreePasses.{IsFull, at_last-append, back, full-mapped, full_passes}
 use Rattle.sigma_lower.proofs.TreeLoops.TreePasses.{layout_passes, rule_passes, rule_waiting}
-use Rattle.sigma_spl.specs.Work.{PlainWork}
-use Rattle.smp_rewrite.specs.LayoutSteps.Layout.{Layout, work, by, layout_size}
-use Rattle.smp_rewrite.specs.LayoutSteps.Step.{PlainStep, piece, step, turns, twiddles, thomas_in, thomas_out}
-use Rattle.smp_rewrite.specs.LayoutSteps.Step.{rule_steps, steps_of}
-use Rattle.operators.specs.declared.tensor_paths.Tensor.TheVariants.{Blocks, Columns}
-use Rattle.operators.specs.TensorPaths.Path.{Path, size_under}
-use Rattle.operators.proofs.TensorPaths.Under.{size_under-push}
-use Rattle.tree_model.specs.declared.tree.Rule.{Rule}
-use Rattle.tree_model.specs.declared.tree.Rule.TheVariants.{Gt, Ct, Split, Dim}
 
 abbrev pub done : List PlainPass → Merging
 done ps = record { waiting = []; passes = ps }
@@ -116,9 +105,7 @@ module _ (n : ℕ) (emit : Emission) (wait : Mapping → Mapping) (pass : PlainP
       (make-both left (right ++ last ∷ []) make_left make on_left
       (make-changed last (diag (over path) r s w) (multiplied path r s w) (multiplied (over path) r s w) right
       make_right (lifts.twiddled path r s w) (λ ps. refl) (lifts.multiplies path r s w) full_right on_right)))
-  make-rule Split path r s w left right make_left make_right e full_left full_right on_left on_right =
-      make-both left right make_left make_right on_left on_right
-  make-rule Dim path r s w left right make_left make_right e full_left full_right on_left on_right =
+  make-rule _ path r s w left right make_left make_right e full_left full_right on_left on_right =
       make-both left right make_left make_right on_left on_right
 
   pub make-layout : (path : Path) (l : Layout) → size_under path (layout_size l) ≡ n → (fs : List Mapping)

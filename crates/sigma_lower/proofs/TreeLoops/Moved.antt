@@ -1,12 +1,8 @@
 -- Sums put together in another order: tensors that trade places, two tensors of columns as one, and a tensor of one copy.
-use Rattle.std.proofs.Common.{◌≡◌, ℕ, ◌-◌, ◌*◌, ◌≤◌, arith, sym, ap, ap₂, ◌∙◌, List, ◌∷◌, le-mul_of_pos_right}
-use Rattle.sigma_lower.specs.TreeLoops.Placed.{Fits}
-use Rattle.perm_algebra.specs.Affine.{Sum, constant, variable, remainder, quotient, scaled, joined}
-use Rattle.perm_algebra.proofs.Shape.{joined-zero}
-use Rattle.perm_algebra.proofs.Sizes.{joined-end, scaled-one}
+use Rattle.sigma_lower.proofs.Words.{◌≡◌, ℕ, ◌-◌, ◌*◌, ◌≤◌, arith, sym, ap, ap₂, ◌∙◌, List, ◌∷◌, le-mul_of_pos_right}
+use Rattle.sigma_lower.proofs.Words.{Fits, Sum, constant, variable, remainder, quotient, scaled, joined, joined-end}
+use Rattle.sigma_lower.proofs.Words.{scaled-one, Blocks, Columns, Path, size_under, joined-zero}
 use Rattle.sigma_lower.proofs.TreeLoops.InCopies.{placed}
-use Rattle.operators.specs.declared.tensor_paths.Tensor.TheVariants.{Blocks, Columns}
-use Rattle.operators.specs.TensorPaths.Path.{Path, size_under}
 
 -- ---- the algebra of sums
 

@@ -1,12 +1,8 @@
 -- What a rule finds under the tensors of a path, in a part of a layout that stands for a number of words.
-use Rattle.std.proofs.Common.{◌≡◌, ℕ, ◌*◌, ◌≤◌, arith, sym, ◌∙◌}
-use Rattle.sigma_lower.specs.TreeTerms.Good.{AreCoprime}
+use Rattle.sigma_lower.proofs.Words.{◌≡◌, ℕ, ◌*◌, ◌≤◌, arith, sym, ◌∙◌, AreCoprime, Layout, by, layout_size}
+use Rattle.sigma_lower.proofs.Words.{IsGoodLayout, Path, size_under, copies_of, size_under-copies, Rule, Gt}
 use Rattle.sigma_lower.proofs.TreeTerms.Sizes.{part-le}
-use Rattle.smp_rewrite.specs.LayoutSteps.Layout.{Layout, by, layout_size, CanPart, IsGoodLayout}
-use Rattle.operators.specs.TensorPaths.Path.{Path, size_under, copies_of}
-use Rattle.operators.proofs.TensorPaths.Under.{size_under-copies}
-use Rattle.tree_model.specs.declared.tree.Rule.{Rule}
-use Rattle.tree_model.specs.declared.tree.Rule.TheVariants.{Gt}
+use Rattle.smp_rewrite.specs.LayoutSteps.Layout.{CanPart}
 
 -- the words, at least one, that a request may have
 pub record IsSize (size : ℕ) : Type 0 where

@@ -1,6 +1,5 @@
 -- What holds of each pass of a list.
-use Rattle.std.proofs.Common.{List, [], ◌∷◌, ◌++◌}
-use Rattle.sigma_lower.specs.TreeLoops.Merge.{PlainPass, at_last}
+use Rattle.sigma_lower.proofs.Words.{List, [], ◌∷◌, ◌++◌, PlainPass, at_last}
 
 abbrev pub AllPasses : (PlainPass → Type 0) → List PlainPass → Type 0
 AllPasses P [] = Unit {0}

@@ -1,24 +1,17 @@
 -- No place of a layout's passes is over a limit, nor is any on the way there.
-use Rattle.std.proofs.Common.{◌≡◌, ℕ, ◌+◌, ◌*◌, ◌<◌, ◌≤◌, arith, refl, sym, ap, ◌∙◌, List, [], ◌∷◌, ◌++◌, length, subst}
-use Rattle.std.proofs.Common.{mul_comm}
-use Rattle.std.specs.Prelude.{Some}
-use Rattle.std.proofs.Math.Nat.{mul-le-mul_right}
-use Rattle.std.proofs.lemmas.Nat.{mul-le}
-use Rattle.index_fn.specs.Mapping.{Mapping, Strided, ThomasIn, ThomasBack}
-use Rattle.operators.specs.declared.target.Target.{Target}
-use Rattle.perm_algebra.specs.Affine.{IsProper, Sum, constant, variable, top, parts, scaled, joined, Divided, reduced}
-use Rattle.perm_algebra.specs.Affine.{simplified}
-use Rattle.perm_algebra.proofs.AffineLaws.{top-scaled, top-joined}
-use Rattle.perm_algebra.proofs.Shape.{divided-joined, turned-joined}
-use Rattle.perm_algebra.proofs.Sizes.{parts-scaled, parts-joined, proper-joined, proper-scaled}
-use Rattle.std.proofs.lemmas.Option.{none-some, same_Some}
-use Rattle.sigma_lower.specs.TreeLoops.Merge.{PlainDiagonal, PlainPass, new_pass, scattered, multiplied, at_last}
-use Rattle.sigma_lower.specs.TreeLoops.Placed.{Fits, IsTame, place_sum, AreCounts, all_simplified, IsLimitedPass}
-use Rattle.sigma_lower.specs.TreeLoops.Placed.{AllLimited}
+use Rattle.sigma_lower.proofs.Words.{◌≡◌, ℕ, ◌+◌, ◌*◌, ◌<◌, ◌≤◌, arith, refl, sym, ap, ◌∙◌, List, [], ◌∷◌, ◌++◌, length}
+use Rattle.sigma_lower.proofs.Words.{subst, mul_comm, Some, mul-le-mul_right, mul-le, Mapping, Strided, ThomasIn}
+use Rattle.sigma_lower.proofs.Words.{ThomasBack, Target, IsProper, Sum, constant, variable, top, scaled, joined}
+use Rattle.sigma_lower.proofs.Words.{Divided, simplified, top-scaled, top-joined, divided-joined, proper-joined}
+use Rattle.sigma_lower.proofs.Words.{proper-scaled, none-some, same_Some, PlainDiagonal, PlainPass, new_pass, scattered}
+use Rattle.sigma_lower.proofs.Words.{multiplied, at_last, Fits, place_sum, AreCounts, all_simplified, IsLimitedPass}
+use Rattle.sigma_lower.proofs.Words.{HasRoomFor, PlainWork, work_size, Layout, work, by, layout_size, IsGoodLayout}
+use Rattle.sigma_lower.proofs.Words.{wrapped, inner_of, unit_of, Tensor, Blocks, Columns, Path, grown, size_under}
+use Rattle.sigma_lower.proofs.Words.{size_under-push, Rule, Gt, Ct, CanShareLayout, parts, reduced, turned-joined}
+use Rattle.sigma_lower.proofs.Words.{parts-scaled, parts-joined, IsTame}
 use Rattle.sigma_lower.proofs.TreeLoops.InnerPlaces.{inner-place, room-inner}
 use Rattle.sigma_lower.proofs.TreeLoops.InCopies.{simplified-wrapped, room-wrapped}
 use Rattle.sigma_lower.proofs.TreeLoops.RuleRoom.{thomas_in-room, turns-room, thomas_back-room}
-use Rattle.perm_algebra.specs.Room.{HasRoomFor}
 use Rattle.sigma_lower.proofs.TreeLoops.PlaceSums.{tensor_sum, place_sum-push, counts-push, variable-fits, parts-fit}
 use Rattle.sigma_lower.proofs.TreeLoops.PlaceSums.{tensor_sum-fits, place_sum-fits, all_simplified-append}
 use Rattle.sigma_lower.proofs.TreeLoops.PartRules.{IsSize, IsRuleIn, rule_in, coprime_in}
@@ -26,17 +19,7 @@ use Rattle.sigma_lower.proofs.TreeLoops.Staying.{StaysIn, carried-push}
 use Rattle.sigma_lower.proofs.TreeLoops.TameSums.{tame-scaled, tame-joined, reduced-fits}
 use Rattle.sigma_lower.proofs.TreeLoops.PassLists.{AllPasses, all-append, all-last, all-map, map-last}
 use Rattle.sigma_lower.proofs.TreeLoops.TreePasses.{back, rule_waiting, rule_passes, layout_passes}
-use Rattle.sigma_spl.specs.Work.{PlainWork, work_size}
-use Rattle.smp_rewrite.specs.LayoutSteps.Layout.{Layout, work, by, layout_size, IsGoodLayout}
-use Rattle.sigma_lower.specs.TreeTerms.Wrapped.{wrapped, inner_of, unit_of}
 use Rattle.sigma_lower.proofs.TreeTerms.Lowering.{AreCoprime, unit_positive, unit_small}
-use Rattle.operators.specs.declared.tensor_paths.Tensor.{Tensor}
-use Rattle.operators.specs.declared.tensor_paths.Tensor.TheVariants.{Blocks, Columns}
-use Rattle.operators.specs.TensorPaths.Path.{Path, grown, size_under}
-use Rattle.operators.proofs.TensorPaths.Under.{size_under-push}
-use Rattle.tree_model.specs.declared.tree.Rule.{Rule}
-use Rattle.tree_model.specs.declared.tree.Rule.TheVariants.{Gt, Ct, Split, Dim}
-use Rattle.smp_rewrite.specs.Fits.{CanShareLayout}
 
 -- ---- a tensor at a place, and the permutation of a rule
 
@@ -167,8 +150,7 @@ gathering_rule size Gt path r s waiting h g =
 gathering_rule size Ct path r s waiting h g =
     gathering-mapped size path waiting (Strided r s) r s (λ d e cs count fits. turns-one r s d e cs count h.left h.right fits)
     (λ d e cs count fits. turns-room r s d e cs count h.left h.right h.small fits) h.fills h.whole.high g
-gathering_rule size Split path r s waiting h g = gathering-push size path waiting (Blocks r) s g
-gathering_rule size Dim path r s waiting h g = gathering-push size path waiting (Blocks r) s g
+gathering_rule size _ path r s waiting h g = gathering-push size path waiting (Blocks r) s g
 
 -- ---- scatters: from the pass inwards out to a node
 
@@ -345,8 +327,7 @@ placed_rule size rule path r s w left right h l k =
     by-rule Ct h on_left on_right =
         all-append (IsPlacedPass size path (r * s)) _ left
         (placed-multiplied size path r s w right h.small (omega (arith, h.fills, h.whole.high)) h.within on_right) on_left
-    by-rule Split h on_left on_right = all-append (IsPlacedPass size path (r * s)) right left on_right on_left
-    by-rule Dim h on_left on_right = all-append (IsPlacedPass size path (r * s)) right left on_right on_left
+    by-rule _ h on_left on_right = all-append (IsPlacedPass size path (r * s)) right left on_right on_left
 
 new-placed : (size : ℕ) (path : Path) (waiting : List Mapping) (w : PlainWork) → size_under path (work_size w) ≡ size →
     Gathering size path waiting (work_size w) → IsPlacedPass size path (work_size w) (new_pass path w waiting)
@@ -371,7 +352,7 @@ pub whole_placed : (m : ℕ) (l : Layout) → IsSize (layout_size l) → IsGoodL
     ArePlaced (layout_size l) [] (layout_size l) (layout_passes [] [] l)
 whole_placed m l whole h = placed_passes m (layout_size l) [] [] l whole h refl (gathering-natural (layout_size l) [] (layout_size l) refl)
 
-limited_pass : (c : Target) (p : PlainPass) → IsPlacedPass c.size [] c.size p → IsLimitedPass c p
+pub limited_pass : (c : Target) (p : PlainPass) → IsPlacedPass c.size [] c.size p → IsLimitedPass c p
 limited_pass c p h cs e counts fits name =
     record {
       loads = h.gathers cs 0 e counts fits;
@@ -381,16 +362,5 @@ limited_pass c p h cs e counts fits name =
           carried-push cs c.size (d.rows * d.cols) d.places (inner_of d.path (d.rows * d.cols)) (place_sum p.path (work_size p.work) 0 e) m.stays m.room m.fits;
     }
 
-pub all_limited : (c : Target) (ps : List PlainPass) → ArePlaced c.size [] c.size ps → AllLimited c ps
-all_limited c [] h = tt
-all_limited c (p ∷ ps) h = (limited_pass c p h.0, all_limited c ps h.1)
-
 pub size_in : (c : Target) (l : Layout) → CanShareLayout c l → IsSize c.size
 size_in c l h = record { low = h.some; high = h.small }
-
--- the passes of a layout on one processor and one lane
-pub tree_limited : (c : Target) (l : Layout) → CanShareLayout c l → IsGoodLayout c.modulus l →
-    AllLimited c (layout_passes [] [] l)
-tree_limited c l shares good =
-    all_limited c (layout_passes [] [] l)
-    (subst (λ n. ArePlaced n [] n (layout_passes [] [] l)) shares.size (whole_placed c.modulus l (subst IsSize (sym shares.size) (size_in c l shares)) good))

@@ -1,12 +1,11 @@
 -- Where scaled, joined and divided sums fit 64 bits.
-use Rattle.std.proofs.Common.{ℕ, ◌+◌, ◌-◌, ◌*◌, ◌/◌, ◌%◌, ◌^◌, ◌<◌, ◌≤◌, inl, inr, arith, sym, ◌∙◌, subst}
-use Rattle.std.proofs.Common.{le-mul_of_pos_right}
-use Rattle.std.proofs.Math.Nat.{mul-le-mul_left, mul-le-mul_right, mod-le}
-use Rattle.std.proofs.lemmas.Bool.{cases_eq}
-use Rattle.std.proofs.lemmas.Bool.Decides.{nat_tests}
-use Rattle.perm_algebra.specs.Affine.{IsProper, Sum, constant, variable, remainder, quotient, top, peak, scaled, joined}
-use Rattle.perm_algebra.specs.Affine.{mods}
-use Rattle.perm_algebra.specs.Room.{constant_of, HasTop, CanScale, CanJoin, CanDivide}
+use Rattle.sigma_lower.proofs.Words.{chosen, ◌==◌, ℕ, ◌+◌, ◌-◌, ◌*◌, ◌/◌, ◌%◌, ◌^◌, ◌<◌, ◌≤◌, arith, sym, ◌∙◌, subst}
+use Rattle.sigma_lower.proofs.Words.{le-mul_of_pos_right, mul-le-mul_right, IsProper, Sum, constant, variable}
+use Rattle.sigma_lower.proofs.Words.{remainder, quotient, top, scaled, joined, mods, ◌≡◌, CanJoin, HasRoomFor, Mapping}
+use Rattle.sigma_lower.proofs.Words.{simplified, Divided, divided-joined, top-scaled, Paired}
+use Rattle.perm_algebra.specs.Room.{CanScale, constant_of, HasTop, CanDivide}
+use Rattle.std.proofs.Math.Nat.{mul-le-mul_left, mod-le}
+use Rattle.perm_algebra.specs.Affine.{peak}
 use Rattle.perm_algebra.proofs.Shape.{rest-joined, rest-small}
 
 pub has_top : (e : Sum) (cs : ℕ → ℕ) → IsProper e cs → top e cs < 2 ^ 64 → HasTop cs e
@@ -38,6 +37,25 @@ pub can_divide : (s : ℕ) (a e : Sum) (cs : ℕ → ℕ) → 0 < s → s ≤ 2 
     CanDivide cs s (joined (scaled s a) e)
 can_divide s a e cs positive high h small = subst (HasTop cs) (sym (rest-joined s a e positive ∙ rest-small s e cs h small)) (has_top e cs h (omega arith))
 
+-- a pair of functions at a multiple of s and a small rest, which they lead to these sums
+pub room-paired : (f g : Mapping) (s k : ℕ) (a e x y : Sum) (cs : ℕ → ℕ) → 0 < s → s ≤ 2 ^ 64 → IsProper e cs →
+    top e cs < s → HasRoomFor cs f a → HasRoomFor cs g e → simplified cs f a ≡ x → simplified cs g e ≡ y →
+    IsProper x cs → k * top x cs + top y cs < 2 ^ 64 → HasRoomFor cs (Paired f k g s) (joined (scaled s a) e)
+room-paired f g s k a e x y cs some high proper small on_left on_right left right count below =
+    let scale : CanScale k x = can_scale k x cs count (omega arith) in
+    let join : CanJoin (scaled k x) y = can_join (scaled k x) y cs (omega (arith, top-scaled k x cs)) in
+    subst
+    (λ (z : Divided).
+    CanDivide cs s (joined (scaled s a) e) × HasRoomFor cs f z.quot × HasRoomFor cs g z.rem
+    × CanScale k (simplified cs f z.quot) × CanJoin (scaled k (simplified cs f z.quot)) (simplified cs g z.rem))
+    (sym (divided-joined s a e cs some proper small)) (
+      can_divide s a e cs some high proper small,
+      on_left,
+      on_right,
+      subst (CanScale k) (sym left) scale,
+      subst (λ w. CanJoin (scaled k w) (simplified cs g e)) (sym left) (subst (CanJoin (scaled k x)) (sym right) join),
+    )
+
 pub scaled-top : (a t b : ℕ) → t < b → a * t ≤ b * a
 scaled-top a t b h = let more : a * t ≤ a * b = mul-le-mul_left a (omega arith) in omega arith
 
@@ -47,17 +65,13 @@ factor-le f n x = mul-le-mul_right x (mod-le f n)
 pub top-mods : (n : ℕ) (e : Sum) (cs : ℕ → ℕ) → top (mods n e) cs ≤ top e cs
 top-mods n (constant c) cs = mod-le c n
 top-mods n (variable f d rest) cs =
-    elim (cases_eq (f % n) 0) [
-      | inl gone ↦ grind (arith, nat_tests, top-mods n rest cs)
-      | inr other ↦ grind (arith, nat_tests, factor-le f n (cs d - 1), top-mods n rest cs)
-    ]
+    chosen (λ e. top e cs ≤ top (variable f d rest) cs) (f % n == 0) (mods n rest) (variable (f % n) d (mods n rest))
+    (λ gone. omega (arith, top-mods n rest cs)) (omega (arith, factor-le f n (cs d - 1), top-mods n rest cs))
 top-mods n (remainder f of m rest) cs =
-    elim (cases_eq (f % n) 0) [
-      | inl gone ↦ grind (arith, nat_tests, top-mods n rest cs)
-      | inr other ↦ grind (arith, nat_tests, factor-le f n (m - 1), top-mods n rest cs)
-    ]
+    chosen (λ e. top e cs ≤ top (remainder f of m rest) cs) (f % n == 0) (mods n rest)
+    (remainder (f % n) of m (mods n rest)) (λ gone. omega (arith, top-mods n rest cs))
+    (omega (arith, factor-le f n (m - 1), top-mods n rest cs))
 top-mods n (quotient f of m rest) cs =
-    elim (cases_eq (f % n) 0) [
-      | inl gone ↦ grind (arith, nat_tests, top-mods n rest cs)
-      | inr other ↦ grind (arith, nat_tests, factor-le f n (top of cs / m), top-mods n rest cs)
-    ]
+    chosen (λ e. top e cs ≤ top (quotient f of m rest) cs) (f % n == 0) (mods n rest)
+    (quotient (f % n) of m (mods n rest)) (λ gone. omega (arith, top-mods n rest cs))
+    (omega (arith, factor-le f n (top of cs / m), top-mods n rest cs))

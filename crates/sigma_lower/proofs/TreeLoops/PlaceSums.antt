@@ -1,17 +1,11 @@
 -- Natural places as sums: one tensor more, and permutations at them.
-use Rattle.std.proofs.Common.{◌≡◌, ℕ, ◌+◌, ◌*◌, ◌<◌, ◌≤◌, arith, refl, ap, ap₂, ◌∙◌, List, [], ◌∷◌, ◌++◌, length}
-use Rattle.std.proofs.Math.Nat.{mul-le-mul}
+use Rattle.sigma_lower.proofs.Words.{◌≡◌, ℕ, ◌+◌, ◌*◌, ◌<◌, ◌≤◌, arith, refl, ap, ap₂, ◌∙◌, List, [], ◌∷◌, ◌++◌, length}
+use Rattle.sigma_lower.proofs.Words.{mul-le-mul, Mapping, Sum, constant, variable, top, scaled, joined, simplified}
+use Rattle.sigma_lower.proofs.Words.{top-scaled, top-joined, proper-joined, proper-scaled, positive-product, Fits}
+use Rattle.sigma_lower.proofs.Words.{place_sum, AreCounts, all_simplified, Tensor, Blocks, Columns, Path, count_of}
+use Rattle.sigma_lower.proofs.Words.{grown, size_under, size_under-push}
 use Rattle.std.proofs.lemmas.Nat.{mul-add-lt}
-use Rattle.index_fn.specs.Mapping.{Mapping}
-use Rattle.perm_algebra.specs.Affine.{Sum, constant, variable, top, scaled, joined, simplified}
-use Rattle.perm_algebra.proofs.AffineLaws.{top-scaled, top-joined}
-use Rattle.perm_algebra.proofs.Sizes.{proper-joined, proper-scaled, positive-product}
-use Rattle.sigma_lower.specs.TreeLoops.Placed.{Fits, place_sum, AreCounts, all_simplified}
 use Rattle.sigma_lower.proofs.TreeLoops.TameSums.{tame-scaled, tame-joined, few-joined}
-use Rattle.operators.specs.declared.tensor_paths.Tensor.{Tensor}
-use Rattle.operators.specs.declared.tensor_paths.Tensor.TheVariants.{Blocks, Columns}
-use Rattle.operators.specs.TensorPaths.Path.{Path, count_of, grown, size_under}
-use Rattle.operators.proofs.TensorPaths.Under.{size_under-push}
 
 -- the place under one tensor
 abbrev pub tensor_sum : Tensor → ℕ → ℕ → Sum → Sum

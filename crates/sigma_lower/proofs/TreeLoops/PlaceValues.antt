@@ -1,14 +1,10 @@
 -- The sums of a pass have the values of its places.
-use Rattle.std.proofs.Common.{◌≡◌, ℕ, refl, ap, ◌∙◌, List, [], ◌∷◌, ◌++◌}
-use Rattle.index_fn.specs.Mapping.{Mapping, at}
-use Rattle.perm_algebra.specs.Affine.{Sum, value, IsSound, simplified, AreBelowCounts}
+use Rattle.sigma_lower.proofs.Words.{◌≡◌, ℕ, refl, ap, ◌∙◌, List, [], ◌∷◌, ◌++◌, Mapping, at, Sum, value, simplified}
+use Rattle.sigma_lower.proofs.Words.{through, place_sum, all_simplified, Path, place, AreFormed, sound-place_sum}
+use Rattle.perm_algebra.specs.Affine.{IsSound, AreBelowCounts}
 use Rattle.perm_algebra.proofs.Kept.{sound-simplified}
 use Rattle.perm_algebra.proofs.Values.{simplified_keeps}
-use Rattle.sigma_lower.specs.TreeLoops.Merge.{through}
-use Rattle.sigma_lower.specs.TreeLoops.Placed.{place_sum, all_simplified}
-use Rattle.sigma_spl.specs.Loops.{AreFormed}
-use Rattle.sigma_spl.proofs.Natural.{loop_values, sound-place_sum, value-place_sum}
-use Rattle.operators.specs.TensorPaths.Path.{Path, place}
+use Rattle.sigma_spl.proofs.Natural.{loop_values, value-place_sum}
 
 -- one function after the other
 pub record Follows (cs vs : ℕ → ℕ) (fs : List Mapping) (e : Sum) : Type 0 where

@@ -1,13 +1,9 @@
 -- The places of the right part of a shared root.
-use Rattle.std.proofs.Common.{◌≡◌, ℕ, ◌+◌, ◌*◌, ◌/◌, ◌<◌, ◌≤◌, Bool, true, false, arith, refl, sym, ap, ◌∙◌, List, []}
-use Rattle.std.proofs.Common.{◌∷◌, ◌++◌, if◌then◌else◌, subst, append-nil, append_assoc}
-use Rattle.std.specs.Prelude.{◌==◌}
-use Rattle.std.proofs.lemmas.Bool.Decides.{nat_tests}
-use Rattle.index_fn.specs.Mapping.{Mapping}
-use Rattle.sigma_spl.specs.Limits.{AreSeveral}
-use Rattle.perm_algebra.specs.Affine.{Sum, constant, variable}
-use Rattle.sigma_lower.specs.TreeLoops.Merge.{PlainPass}
-use Rattle.sigma_lower.specs.TreeLoops.Placed.{Fits, place_sum}
+use Rattle.sigma_lower.proofs.Words.{◌≡◌, ℕ, ◌+◌, ◌*◌, ◌/◌, ◌<◌, ◌≤◌, Bool, true, false, arith, refl, sym, ap, ◌∙◌}
+use Rattle.sigma_lower.proofs.Words.{List, [], ◌∷◌, ◌++◌, if◌then◌else◌, subst, append-nil, append_assoc, ◌==◌}
+use Rattle.sigma_lower.proofs.Words.{nat_tests, Mapping, AreSeveral, Sum, constant, variable, PlainPass, Fits}
+use Rattle.sigma_lower.proofs.Words.{place_sum, right_path, within_all, Tensor, Blocks, Columns, Path, count_of}
+use Rattle.sigma_lower.proofs.Words.{size_under, Layout, layout_size, IsGoodLayout}
 use Rattle.sigma_lower.proofs.TreeLoops.InCopies.{placed}
 use Rattle.sigma_lower.proofs.TreeLoops.LineMoves.{LeadsTo, AreThree, leads-same, turned-leads}
 use Rattle.sigma_lower.proofs.TreeLoops.PartRules.{IsSize}
@@ -16,12 +12,6 @@ use Rattle.sigma_lower.proofs.TreeLoops.RootPasses.{turned_waiting}
 use Rattle.sigma_lower.proofs.TreeLoops.RootShares.{AreShares, rows_some, lines_small, vectors_small}
 use Rattle.sigma_lower.proofs.TreeLoops.TreePasses.{layout_passes}
 use Rattle.sigma_lower.proofs.TreeLoops.WithinPlaces.{size-all, natural-placed, natural-copies}
-use Rattle.sigma_lower.specs.TreeTerms.Root.{right_path}
-use Rattle.smp_rewrite.proofs.Tensors.{within_all}
-use Rattle.operators.specs.declared.tensor_paths.Tensor.{Tensor}
-use Rattle.operators.specs.declared.tensor_paths.Tensor.TheVariants.{Blocks, Columns}
-use Rattle.operators.specs.TensorPaths.Path.{Path, count_of, size_under}
-use Rattle.smp_rewrite.specs.LayoutSteps.Layout.{Layout, layout_size, IsGoodLayout}
 
 -- ---- tensors of more than one copy
 

@@ -1,12 +1,7 @@
 -- The sizes of a shared root's parts are dealt to processors and lanes in equal parts.
-use Rattle.std.proofs.Common.{◌≡◌, ℕ, ◌*◌, ◌/◌, ◌%◌, ◌<◌, ◌≤◌, arith, sym, ap, ◌∙◌, inl, inr, mul_comm, subst}
-use Rattle.std.proofs.lemmas.Bool.{cases_eq}
-use Rattle.operators.specs.declared.target.Target.{Target}
-use Rattle.smp_rewrite.specs.Fits.{CanShareLayout, HasParts}
-use Rattle.smp_rewrite.specs.LayoutSteps.Layout.{Layout}
+use Rattle.sigma_lower.proofs.Words.{◌≡◌, ℕ, ◌*◌, ◌/◌, ◌%◌, ◌<◌, ◌≤◌, arith, sym, ap, ◌∙◌, inl, inr, mul_comm, subst}
+use Rattle.sigma_lower.proofs.Words.{cases_eq, Target, CanShareLayout, HasParts, Layout, IsWide, wide_from, wide_part}
 use Rattle.smp_rewrite.proofs.Dealt as smp
-use Rattle.vec_rewrite.proofs.Following.{IsWide}
-use Rattle.vec_rewrite.proofs.StepFollows.{wide_from, wide_part}
 
 -- p processors and v lanes have equal parts of k
 abbrev pub IsDealt : ℕ → ℕ → ℕ → Type 0

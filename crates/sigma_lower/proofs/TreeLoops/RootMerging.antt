@@ -1,32 +1,21 @@
 -- Merging the terms of a shared layout makes its passes.
-use Rattle.std.proofs.Common.{◌≡◌, ℕ, ◌*◌, ◌/◌, ◌==◌, Bool, true, false, List, [], ◌∷◌, ◌++◌, refl, sym, ap, ap₂, ◌∙◌}
-use Rattle.std.proofs.Common.{if◌then◌else◌, append_assoc}
-use Rattle.std.specs.Prelude.{map, None}
-use Rattle.std.specs.Option.{option_map}
-use Rattle.std.proofs.lemmas.List.{map-append, append-nil}
-use Rattle.index_fn.specs.Mapping.{Mapping, Same, Paired, Strided, ThomasIn, ThomasBack}
-use Rattle.operators.specs.declared.target.Target.{Target}
-use Rattle.sigma_lower.specs.TreeLoops.Merge.{PlainPass, Merging, new_pass, scattered}
-use Rattle.sigma_lower.specs.TreeLoops.Merge.{merged, passes_of_terms}
+use Rattle.sigma_lower.proofs.Words.{◌≡◌, ℕ, ◌*◌, ◌/◌, ◌==◌, Bool, true, false, List, [], ◌∷◌, ◌++◌, refl, sym, ap, ap₂}
+use Rattle.sigma_lower.proofs.Words.{◌∙◌, if◌then◌else◌, append_assoc, map, None, option_map, map-append, Mapping, Same}
+use Rattle.sigma_lower.proofs.Words.{Strided, ThomasIn, ThomasBack, Target, PlainPass, Merging, new_pass, scattered}
+use Rattle.sigma_lower.proofs.Words.{merged, passes_of_terms, left_path, whole_path, right_path, tile_path, turned_in}
+use Rattle.sigma_lower.proofs.Words.{tiled_before, tiled_after, lines_dealt, lines_moved, vectors_turned}
+use Rattle.sigma_lower.proofs.Words.{vectors_grouped, left_core, left_terms, right_terms, root_terms, PlainTerm, gath}
+use Rattle.sigma_lower.proofs.Words.{scat, diag, nest, lowered, PlainWork, tile, wrapped, unit_of, steps_of, Blocks}
+use Rattle.sigma_lower.proofs.Words.{Columns, Path, size_under, Rule, Gt, Ct, Split, Layout, work, by, layout_size}
+use Rattle.sigma_lower.proofs.Words.{Paired}
+use Rattle.std.proofs.lemmas.List.{append-nil}
 use Rattle.sigma_lower.proofs.TreeLoops.RootPasses.{turned_waiting, tile_before, tile_after, if_lanes, right_passes}
 use Rattle.sigma_lower.proofs.TreeLoops.RootPasses.{on_all, if_dealt, left_diagonal, left_pass, left_passes}
 use Rattle.sigma_lower.proofs.TreeLoops.RootPasses.{root_passes, RootPasses}
 use Rattle.sigma_lower.proofs.TreeLoops.Emitted.{merged-both}
 use Rattle.sigma_lower.proofs.TreeLoops.MadePasses.{Lifts, done, make-layout, merged_tree}
 use Rattle.sigma_lower.proofs.TreeLoops.TreePasses.{layout_passes, at_last-append}
-use Rattle.sigma_lower.specs.TreeTerms.Root.{left_path, whole_path, right_path, tile_path, turned_in, tiled_before}
-use Rattle.sigma_lower.specs.TreeTerms.Root.{tiled_after, lines_dealt, lines_moved, vectors_turned, vectors_grouped}
-use Rattle.sigma_lower.specs.TreeTerms.Root.{left_core, left_terms, right_terms, root_terms}
-use Rattle.sigma_lower.specs.TreeTerms.Term.{PlainTerm, gath, scat, diag, nest, lowered}
-use Rattle.sigma_spl.specs.Work.{PlainWork, tile}
 use Rattle.sigma_lower.proofs.TreeTerms.RootTerms.{shared_terms}
-use Rattle.sigma_lower.specs.TreeTerms.Wrapped.{wrapped, unit_of}
-use Rattle.smp_rewrite.specs.LayoutSteps.Step.{steps_of}
-use Rattle.operators.specs.declared.tensor_paths.Tensor.TheVariants.{Blocks, Columns}
-use Rattle.operators.specs.TensorPaths.Path.{Path, size_under}
-use Rattle.tree_model.specs.declared.tree.Rule.{Rule}
-use Rattle.tree_model.specs.declared.tree.Rule.TheVariants.{Gt, Ct, Split, Dim}
-use Rattle.smp_rewrite.specs.LayoutSteps.Layout.{Layout, work, by, layout_size}
 use Rattle.sigma_lower.proofs.TreeLoops.LeftPlaces.{size_under-append}
 
 -- ---- the left part
@@ -129,8 +118,7 @@ merged-right p v Ct w a b =
     (merged-both (done inner) (done (inner ++ if_lanes v (tile_after p v r s))) _ (tiled_after p v r s)
     (diag [] r s w ∷ [])
     (merged-tile (v == 1) (tile_path p v r s) (tile v) (vectors_grouped (v * (s / v)) p v r s) inner) refl))
-merged-right p v Split w a b = merged-split p v w a b
-merged-right p v Dim w a b = merged-split p v w a b
+merged-right p v _ w a b = merged-split p v w a b
 
 -- ---- the root
 

@@ -1,22 +1,10 @@
 -- The passes of a layout that several processors or lanes share, written out from its root: those of the right part and of the left part, and the tiles beside them.
-use Rattle.std.proofs.Common.{◌≡◌, ℕ, ◌*◌, ◌/◌, ◌==◌, false, List, [], ◌∷◌, ◌++◌, if◌then◌else◌}
-use Rattle.std.specs.Prelude.{map}
-use Rattle.std.specs.Option.{option_map}
-use Rattle.index_fn.specs.Mapping.{Mapping}
-use Rattle.operators.specs.declared.target.Target.{Target}
-use Rattle.sigma_lower.specs.TreeLoops.Merge.{PlainDiagonal, PlainPass, new_pass, scattered, multiplied, at_last}
-use Rattle.sigma_lower.specs.TreeLoops.Merge.{merged_phases}
+use Rattle.sigma_lower.proofs.Words.{◌≡◌, ℕ, ◌*◌, ◌/◌, ◌==◌, false, List, [], ◌∷◌, ◌++◌, if◌then◌else◌, map, option_map}
+use Rattle.sigma_lower.proofs.Words.{Mapping, Target, PlainDiagonal, PlainPass, new_pass, scattered, multiplied}
+use Rattle.sigma_lower.proofs.Words.{at_last, merged_phases, right_path, left_path, whole_path, tile_path, lines_moved}
+use Rattle.sigma_lower.proofs.Words.{vectors_turned, vectors_grouped, lines_dealt, tile, wrapped, Columns, Rule, Gt, Ct}
+use Rattle.sigma_lower.proofs.Words.{Split, Dim, CanShareLayout, Layout, work, by, layout_size, IsGoodLayout, is_alone}
 use Rattle.sigma_lower.proofs.TreeLoops.TreePasses.{layout_passes}
-use Rattle.sigma_lower.specs.TreeTerms.Root.{right_path, left_path, whole_path, tile_path, lines_moved, vectors_turned}
-use Rattle.sigma_lower.specs.TreeTerms.Root.{vectors_grouped, lines_dealt}
-use Rattle.sigma_spl.specs.Work.{tile}
-use Rattle.sigma_lower.specs.TreeTerms.Wrapped.{wrapped}
-use Rattle.operators.specs.declared.tensor_paths.Tensor.TheVariants.{Columns}
-use Rattle.tree_model.specs.declared.tree.Rule.{Rule}
-use Rattle.tree_model.specs.declared.tree.Rule.TheVariants.{Gt, Ct, Split, Dim}
-use Rattle.smp_rewrite.specs.Fits.{CanShareLayout}
-use Rattle.smp_rewrite.specs.LayoutSteps.Layout.{Layout, work, by, layout_size, IsGoodLayout}
-use Rattle.sigma_spl.specs.Shared.Targets.{is_alone}
 
 -- ---- the right part, for p processors and v lanes, of a root of r * s
 

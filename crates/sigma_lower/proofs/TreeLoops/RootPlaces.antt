@@ -1,61 +1,45 @@
 -- What holds of the places of a shared layout's passes.
-use Rattle.std.proofs.Common.{◌≡◌, ℕ, ◌*◌, ◌/◌, ◌≤◌, Bool, true, false, arith, refl, sym, ap, ◌∙◌, List, [], ◌∷◌}
-use Rattle.std.proofs.Common.{◌++◌, if◌then◌else◌, subst, mul_comm, append-nil}
-use Rattle.std.specs.Prelude.{◌==◌, map, Option, None, Some}
-use Rattle.index_fn.specs.Mapping.{Mapping}
-use Rattle.operators.specs.declared.target.Target.{Target}
-use Rattle.std.proofs.lemmas.Option.{none-some, same_Some}
-use Rattle.sigma_lower.specs.TreeLoops.Merge.{PlainDiagonal, PlainPass, multiplied, at_last, in_order}
-use Rattle.sigma_lower.specs.TreeLoops.Placed.{AllLimited}
+use Rattle.sigma_lower.proofs.Words.{◌≡◌, ℕ, ◌*◌, ◌/◌, ◌≤◌, Bool, true, false, arith, refl, sym, ap, ◌∙◌, List, [], ◌∷◌}
+use Rattle.sigma_lower.proofs.Words.{◌++◌, if◌then◌else◌, subst, mul_comm, append-nil, ◌==◌, map, Option, None, Some}
+use Rattle.sigma_lower.proofs.Words.{Mapping, Target, none-some, same_Some, PlainDiagonal, PlainPass, multiplied}
+use Rattle.sigma_lower.proofs.Words.{at_last, in_order, IsLimitedPass, right_path, left_path, vectors_grouped}
+use Rattle.sigma_lower.proofs.Words.{PlainWork, tile, work_size, Layout, work, by, layout_size, IsGoodLayout, Columns}
+use Rattle.sigma_lower.proofs.Words.{Path, size_under, Rule, Gt, Ct, CanShareLayout, RuleHasParts, is_alone}
 use Rattle.sigma_spl.proofs.Several.{several-append}
-use Rattle.sigma_lower.proofs.TreeLoops.GoodPlaces.{HaveGoodPlaces}
 use Rattle.sigma_lower.proofs.TreeLoops.LeftPlaces.{size_under-append, mapped-some, left_fills, left_wide, left_limited}
 use Rattle.sigma_lower.proofs.TreeLoops.PartRules.{IsSize}
-use Rattle.sigma_lower.proofs.TreeLoops.PlaceLimits.{Gathering, gathering-natural, ArePlaced}
-use Rattle.sigma_lower.proofs.TreeLoops.PlaceLimits.{placed-multiplied, all_limited, whole_placed}
+use Rattle.sigma_lower.proofs.TreeLoops.PlaceLimits.{Gathering, gathering-natural, ArePlaced, placed-multiplied}
+use Rattle.sigma_lower.proofs.TreeLoops.PlaceLimits.{limited_pass, whole_placed}
 use Rattle.sigma_lower.proofs.TreeLoops.RightPlaces.{right_fills, right_wide, gathering-turned, right_placed}
-use Rattle.sigma_lower.proofs.TreeLoops.RootPasses.{turned_waiting, tile_before, tile_after, if_lanes}
-use Rattle.sigma_lower.proofs.TreeLoops.RootPasses.{left_diagonal, left_pass, right_passes, root_passes}
-use Rattle.sigma_lower.proofs.TreeLoops.RootShares.{AreShares, shares_of}
-use Rattle.sigma_lower.proofs.TreeLoops.RootShares.{rows_size}
-use Rattle.sigma_lower.proofs.TreeLoops.PassLists.{all-append, all-last}
-use Rattle.sigma_lower.proofs.TreeLoops.Shaped.{IsShaped, AreShaped, HasWorks}
-use Rattle.sigma_lower.proofs.TreeLoops.Shaped.{multiplied-shaped, shaped_passes}
+use Rattle.sigma_lower.proofs.TreeLoops.RootPasses.{turned_waiting, tile_before, tile_after, if_lanes, left_diagonal}
+use Rattle.sigma_lower.proofs.TreeLoops.RootPasses.{left_pass, right_passes, root_passes}
+use Rattle.sigma_lower.proofs.TreeLoops.RootShares.{AreShares, shares_of, rows_size}
+use Rattle.sigma_lower.proofs.TreeLoops.PassLists.{AllPasses, all-append, all-last, all-map}
+use Rattle.sigma_lower.proofs.TreeLoops.Shaped.{IsShaped, AreShaped, HasWorks, multiplied-shaped, shaped_passes}
 use Rattle.sigma_lower.proofs.TreeLoops.TilePlaces.{tile_fills, tile_wide, KeepWithin, none_keep, grouped_keep}
 use Rattle.sigma_lower.proofs.TreeLoops.TilePlaces.{tile_with, tile_limited}
 use Rattle.sigma_lower.proofs.TreeLoops.TreePasses.{layout_passes, at_last-append}
-use Rattle.sigma_lower.specs.TreeTerms.Root.{right_path, left_path}
-use Rattle.sigma_lower.specs.TreeTerms.Root.{vectors_grouped}
-use Rattle.sigma_spl.specs.Work.{PlainWork, tile, work_size}
-use Rattle.smp_rewrite.specs.LayoutSteps.Layout.{Layout, work, by, layout_size, IsGoodLayout}
-use Rattle.operators.specs.declared.tensor_paths.Tensor.TheVariants.{Columns}
-use Rattle.operators.specs.TensorPaths.Path.{Path, size_under}
-use Rattle.tree_model.specs.declared.tree.Rule.{Rule}
-use Rattle.tree_model.specs.declared.tree.Rule.TheVariants.{Gt, Ct, Split, Dim}
 use Rattle.sigma_lower.proofs.TreeTerms.RootTerms.{rule-fits}
-use Rattle.smp_rewrite.specs.Fits.{CanShareLayout, RuleHasParts}
-use Rattle.sigma_spl.specs.Shared.Targets.{is_alone}
 
 -- ---- lists of passes
 
-limited-append : (c : Target) (ps qs : List PlainPass) → AllLimited c ps → AllLimited c qs → AllLimited c (ps ++ qs)
-limited-append c [] qs h k = k
-limited-append c (p ∷ ps) qs h k = (h.0, limited-append c ps qs h.1 k)
+-- a pass within the limits, whose copies fill the whole, and P holds of its work
+pub record IsGoodPlace (c : Target) (P : PlainWork → Type 0) (p : PlainPass) : Type 0 where
+  pub limited : IsLimitedPass c p
+  pub shaped : IsShaped P c.size p
 
-good-none : (c : Target) (P : PlainWork → Type 0) → HaveGoodPlaces c P []
-good-none c P = record { limited = tt; shaped = tt }
+abbrev pub HaveGoodPlaces : Target → (PlainWork → Type 0) → List PlainPass → Type 0
+HaveGoodPlaces c P ps = AllPasses (IsGoodPlace c P) ps
 
-good-append : (c : Target) (P : PlainWork → Type 0) (ps qs : List PlainPass) → HaveGoodPlaces c P ps →
-    HaveGoodPlaces c P qs → HaveGoodPlaces c P (ps ++ qs)
-good-append c P ps qs h k =
-    record {
-      limited = limited-append c ps qs h.limited k.limited;
-      shaped = all-append (IsShaped P c.size) ps qs h.shaped k.shaped;
-    }
+pub good-both : (c : Target) (P : PlainWork → Type 0) (ps : List PlainPass) → ArePlaced c.size [] c.size ps →
+    AreShaped P c.size ps → HaveGoodPlaces c P ps
+good-both c P [] at_places shaped = tt
+good-both c P (p ∷ ps) at_places shaped =
+    (record { limited = limited_pass c p at_places.0; shaped = shaped.0 }, good-both c P ps at_places.1 shaped.1)
 
 good-if : (c : Target) (P : PlainWork → Type 0) (b : Bool) (p : PlainPass) → HaveGoodPlaces c P (p ∷ []) →
     HaveGoodPlaces c P (if b then [] else p ∷ [])
-good-if c P true p h = good-none c P
+good-if c P true p h = tt
 good-if c P false p h = h
 
 -- ---- the parts of a root
@@ -78,28 +62,21 @@ module _ (c : Target) (P : PlainWork → Type 0) (p v r s : ℕ) (h : AreShares 
   right_good b waiting formed all is g =
       let path : Path = right_path p v r in
       let fills : size_under path (layout_size b) ≡ size = ap (size_under path) is ∙ right_fills size p v r s h in
-      record {
-        limited = all_limited c (layout_passes path waiting b) (right_tree b waiting formed is g);
-        shaped = shaped_passes P c.modulus size path waiting b (right_wide size p v r s h) formed all fills;
-      }
+      good-both c P (layout_passes path waiting b) (right_tree b waiting formed is g)
+      (shaped_passes P c.modulus size path waiting b (right_wide size p v r s h) formed all fills)
 
   -- a pass over tiles
   tile_good : P (tile v) → (befores afters : List Mapping) (diagonal : Option PlainDiagonal) →
       KeepWithin size p v r s h befores → KeepWithin size p v r s h afters →
       ((d : PlainDiagonal) → diagonal ≡ Some d → (w : ℕ) × ◌≡◌ {A = PlainDiagonal} (record { path = []; rows = r; cols = s; root = w; places = afters }) d) → HaveGoodPlaces c P (tile_with size p v r s h befores diagonal afters ∷ [])
   tile_good over befores afters diagonal before after root =
-      record {
-        limited = (tile_limited size p v r s h c befores afters diagonal refl before after root, tt);
-        shaped = (
-          record {
-            wide = tile_wide size p v r s h;
-            fills = tile_fills size p v r s h;
-            work = over;
-            multiplies = λ d e. subst (λ (x : PlainDiagonal). size_under x.path (x.rows * x.cols) ≡ size) (root d e).1 h.product;
-          },
-          tt,
-        );
-      }
+      let shape : IsShaped P size (tile_with size p v r s h befores diagonal afters) = record {
+        wide = tile_wide size p v r s h;
+        fills = tile_fills size p v r s h;
+        work = over;
+        multiplies = λ d e. subst (λ (x : PlainDiagonal). size_under x.path (x.rows * x.cols) ≡ size) (root d e).1 h.product;
+      } in
+      (record { limited = tile_limited size p v r s h c befores afters diagonal refl before after root; shaped = shape }, tt)
 
   no-diagonal : (afters : List Mapping) (d : PlainDiagonal) → ◌≡◌ {A = Option PlainDiagonal} None (Some d) → (w : ℕ) × ◌≡◌ {A = PlainDiagonal} (record { path = []; rows = r; cols = s; root = w; places = afters }) d
   no-diagonal afters d e = absurd (none-some d e)
@@ -126,20 +103,17 @@ module _ (c : Target) (P : PlainWork → Type 0) (p v r s : ℕ) (h : AreShares 
       HaveGoodPlaces c P (at_last (multiplied [] r s w) ps)
   multiplied_tree w ps placed_passes good =
       let low : r * s ≤ 1048576 = omega (arith, h.product, h.whole.high) in
-      record {
-        limited = all_limited c (at_last (multiplied [] r s w) ps)
-            (subst (λ n. ArePlaced size [] n (at_last (multiplied [] r s w) ps)) h.product (placed-multiplied size [] r s w ps low low (omega (arith, h.product)) (subst (λ n. ArePlaced size [] n ps) (sym h.product) placed_passes)));
-        shaped =
-            all-last (IsShaped P size) (multiplied [] r s w) (λ q k. multiplied-shaped P size [] r s w q h.product k) ps
-            good.shaped;
-      }
+      good-both c P (at_last (multiplied [] r s w) ps)
+      (subst (λ n. ArePlaced size [] n (at_last (multiplied [] r s w) ps)) h.product (placed-multiplied size [] r s w ps low low (omega (arith, h.product)) (subst (λ n. ArePlaced size [] n ps) (sym h.product) placed_passes)))
+      (all-last (IsShaped P size) (multiplied [] r s w) (λ q k. multiplied-shaped P size [] r s w q h.product k) ps
+      (all-map (IsGoodPlace c P) (IsShaped P size) (λ q k. k.shaped) ps good))
 
   ct-pick : (w : ℕ) (b : Bool) (ps : List PlainPass) (last : PlainPass) →
       HaveGoodPlaces c P (at_last (multiplied [] r s w) ps) → HaveGoodPlaces c P ps →
       HaveGoodPlaces c P (multiplied [] r s w last ∷ []) →
       HaveGoodPlaces c P (at_last (multiplied [] r s w) (ps ++ (if b then [] else last ∷ [])))
   ct-pick w true ps last merged_last all one = subst (λ qs. HaveGoodPlaces c P (at_last (multiplied [] r s w) qs)) (sym (append-nil ps)) merged_last
-  ct-pick w false ps last merged_last all one = subst (HaveGoodPlaces c P) (sym (at_last-append (multiplied [] r s w) ps (last ∷ []) tt)) (good-append c P ps (multiplied [] r s w last ∷ []) all one)
+  ct-pick w false ps last merged_last all one = subst (HaveGoodPlaces c P) (sym (at_last-append (multiplied [] r s w) ps (last ∷ []) tt)) (all-append (IsGoodPlace c P) ps (multiplied [] r s w last ∷ []) all one)
 
   pub ct_good : (w : ℕ) (b : Layout) → P (tile v) → IsGoodLayout c.modulus b → HasWorks P b → layout_size b ≡ s →
       HaveGoodPlaces c P (at_last (multiplied [] r s w) (layout_passes (right_path p v r) (turned_waiting p v r s) b
@@ -156,8 +130,8 @@ module _ (c : Target) (P : PlainWork → Type 0) (p v r s : ℕ) (h : AreShares 
   split_good b over formed all is =
       let ps : List PlainPass = layout_passes (right_path p v r) [] b in
       let g : Gathering size (right_path p v r) [] s = gathering-natural size (right_path p v r) s (right_fills size p v r s h) in
-      good-append c P (if_lanes v (tile_before p v r s)) (ps ++ if_lanes v (tile_after p v r s)) (good-if c P (v == 1) (tile_before p v r s) (before_good over))
-      (good-append c P ps (if_lanes v (tile_after p v r s)) (right_good b [] formed all is g) (good-if c P (v == 1) (tile_after p v r s) (after_good over)))
+      all-append (IsGoodPlace c P) (if_lanes v (tile_before p v r s)) (ps ++ if_lanes v (tile_after p v r s)) (good-if c P (v == 1) (tile_before p v r s) (before_good over))
+      (all-append (IsGoodPlace c P) ps (if_lanes v (tile_after p v r s)) (right_good b [] formed all is g) (good-if c P (v == 1) (tile_after p v r s) (after_good over)))
 
   -- ---- the left part
 
@@ -179,14 +153,10 @@ module _ (c : Target) (P : PlainWork → Type 0) (p v r s : ℕ) (h : AreShares 
 
   left_all : (qs : List PlainPass) → ArePlaced r [] r qs → AreShaped P r qs →
       HaveGoodPlaces c P (map (left_pass p v r s) qs)
-  left_all [] at_part shape = good-none c P
+  left_all [] at_part shape = tt
   left_all (q ∷ qs) at_part shape =
-      good-append c P (left_pass p v r s q ∷ []) (map (left_pass p v r s) qs)
-      (record {
-        limited = (left_limited size p v r s h c q refl shape.0.fills at_part.0, tt);
-        shaped = (left_shaped q shape.0, tt);
-      })
-      (left_all qs at_part.1 shape.1)
+      let limited = left_limited size p v r s h c q refl shape.0.fills at_part.0 in
+      (record { limited = limited; shaped = left_shaped q shape.0 }, left_all qs at_part.1 shape.1)
 
   pub left_good : (a : Layout) → IsGoodLayout c.modulus a → HasWorks P a → layout_size a ≡ r →
       HaveGoodPlaces c P (map (left_pass p v r s) (layout_passes [] [] a))
@@ -201,8 +171,8 @@ module _ (c : Target) (P : PlainWork → Type 0) (p v r s : ℕ) (h : AreShares 
 phases_good : (c : Target) (P : PlainWork → Type 0) (b : Bool) (right left : List PlainPass) →
     HaveGoodPlaces c P right → HaveGoodPlaces c P left → HaveGoodPlaces c P
     (in_order (if b then (right ++ left) ∷ [] else right ∷ left ∷ []))
-phases_good c P true right left h k = good-append c P (right ++ left) [] (good-append c P right left h k) (good-none c P)
-phases_good c P false right left h k = good-append c P right (left ++ []) h (good-append c P left [] k (good-none c P))
+phases_good c P true right left h k = all-append (IsGoodPlace c P) (right ++ left) [] (all-append (IsGoodPlace c P) right left h k) tt
+phases_good c P false right left h k = all-append (IsGoodPlace c P) right (left ++ []) h (all-append (IsGoodPlace c P) left [] k tt)
 
 -- a shared root is a ct or a split of sizes that fit
 pub root_good : (c : Target) (P : PlainWork → Type 0) (l : Layout) → CanShareLayout c l → IsGoodLayout c.modulus l →
@@ -223,7 +193,5 @@ root_good c P (by rule root a b) h good all over shared =
     right Gt fits shares = absurd fits
     right Ct fits shares =
         ct_good c P c.procs c.lanes (layout_size a) (layout_size b) shares root b over good.2 all.1 refl
-    right Split fits shares =
-        split_good c P c.procs c.lanes (layout_size a) (layout_size b) shares b over good.2 all.1 refl
-    right Dim fits shares =
+    right _ fits shares =
         split_good c P c.procs c.lanes (layout_size a) (layout_size b) shares b over good.2 all.1 refl

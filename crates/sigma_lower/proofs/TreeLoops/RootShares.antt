@@ -1,13 +1,10 @@
 -- The numbers of a root of r * s that p processors and v lanes share.
-use Rattle.std.proofs.Common.{◌≡◌, ℕ, ◌*◌, ◌/◌, ◌<◌, ◌≤◌, arith, sym, ap, ◌∙◌, mul_comm, le-mul_of_pos_right}
-use Rattle.std.proofs.Math.Nat.{mul-div_cancel_left, mul-le-mul_left, mul-le-mul_right}
-use Rattle.operators.specs.declared.target.Target.{Target}
-use Rattle.smp_rewrite.specs.Fits.{CanShareLayout, HasParts}
-use Rattle.smp_rewrite.specs.LayoutSteps.Layout.{Layout}
-use Rattle.perm_algebra.proofs.Sizes.{positive-product}
+use Rattle.sigma_lower.proofs.Words.{◌≡◌, ℕ, ◌*◌, ◌/◌, ◌<◌, ◌≤◌, arith, sym, ap, ◌∙◌, mul_comm, le-mul_of_pos_right}
+use Rattle.sigma_lower.proofs.Words.{mul-le-mul_right, Target, CanShareLayout, HasParts, Layout, positive-product}
+use Rattle.sigma_lower.proofs.Words.{right_positive}
+use Rattle.std.proofs.Math.Nat.{mul-div_cancel_left, mul-le-mul_left}
 use Rattle.sigma_lower.proofs.TreeLoops.PartRules.{IsSize}
 use Rattle.sigma_lower.proofs.TreeLoops.RootDealt.{dealt_parts}
-use Rattle.sigma_spl.proofs.Keeps.{right_positive}
 
 -- each processor and each lane has as many rows, and as many columns
 pub record AreShares (size p v r s : ℕ) : Type 0 where
@@ -78,13 +75,11 @@ module _ (size p v r s : ℕ) (h : AreShares size p v r s) where
   pub vectors_small : r / p / v * s ≤ 1048576
   vectors_small = let more : r / p / v * s ≤ r * s = mul-le-mul_right s rows_part in omega (arith, h.product, h.whole.high, more)
 
-  pub tiles_small : s / v * v ≤ 1048576
-  tiles_small =
-      let is : s / v * v ≡ s = mul_comm (s / v) v ∙ tiles_fill in
-      let more : 1 * s ≤ r * s = mul-le-mul_right s (omega (arith, h.left)) in omega (arith, is, more, h.product, h.whole.high)
-
   pub columns_high : s ≤ 1048576
   columns_high = let more : 1 * s ≤ r * s = mul-le-mul_right s (omega (arith, h.left)) in omega (arith, more, h.product, h.whole.high)
+
+  pub tiles_small : s / v * v ≤ 1048576
+  tiles_small = omega (arith, mul_comm (s / v) v ∙ tiles_fill, columns_high)
 
   pub rows_high : r ≤ 1048576
   rows_high = let more : r * 1 ≤ r * s = mul-le-mul_left r (omega (arith, h.right)) in omega (arith, more, h.product, h.whole.high)

@@ -1,18 +1,12 @@
 -- The permutations of a rule have room at the places under its tensor.
-use Rattle.std.proofs.Common.{◌≡◌, ℕ, ◌+◌, ◌*◌, ◌^◌, ◌<◌, ◌≤◌, arith, sym, subst, mul-le-mul_left, le-mul_of_pos_right}
-use Rattle.std.proofs.lemmas.Nat.{mul-le}
-use Rattle.index_fn.specs.Mapping.{Strided, ThomasIn, ThomasBack}
-use Rattle.perm_algebra.specs.Affine.{IsProper, Sum, constant, variable, top, scaled, joined, Divided, mods}
-use Rattle.perm_algebra.specs.Room.{CanScale, CanJoin, CanMix, HasRoomFor}
-use Rattle.perm_algebra.proofs.AffineLaws.{top-scaled, top-joined}
-use Rattle.perm_algebra.proofs.Reduced.{mods-proper}
-use Rattle.perm_algebra.proofs.Shape.{divided-joined}
-use Rattle.perm_algebra.proofs.Sizes.{proper-joined, proper-scaled}
-use Rattle.sigma_spl.proofs.Fitting.{le-times}
-use Rattle.sigma_lower.specs.TreeLoops.Placed.{Fits}
+use Rattle.sigma_lower.proofs.Words.{◌≡◌, ℕ, ◌+◌, ◌*◌, ◌^◌, ◌<◌, ◌≤◌, arith, sym, subst, mul-le-mul_left}
+use Rattle.sigma_lower.proofs.Words.{le-mul_of_pos_right, mul-le, Strided, ThomasIn, ThomasBack, IsProper, Sum}
+use Rattle.sigma_lower.proofs.Words.{constant, variable, top, scaled, joined, Divided, mods, CanJoin, HasRoomFor}
+use Rattle.sigma_lower.proofs.Words.{top-scaled, top-joined, divided-joined, proper-joined, proper-scaled, le-times}
+use Rattle.sigma_lower.proofs.Words.{Fits, Blocks, Columns, mods-proper}
+use Rattle.perm_algebra.specs.Room.{CanScale, CanMix}
 use Rattle.sigma_lower.proofs.TreeLoops.PlaceRoom.{has_top, top-mods, can_scale, can_join, can_divide}
 use Rattle.sigma_lower.proofs.TreeLoops.PlaceSums.{tensor_sum, variable-fits}
-use Rattle.operators.specs.declared.tensor_paths.Tensor.TheVariants.{Blocks, Columns}
 
 -- two multiples whose greatest values sum below 2^64
 can_mix : (n a b : ℕ) (e g : Sum) (cs : ℕ → ℕ) → 0 < a → 0 < b → IsProper e cs → IsProper g cs →

@@ -1,22 +1,12 @@
 -- The passes of a layout: their paths have factors of at least 2, round works of the layout.
-use Rattle.std.proofs.Common.{◌≡◌, ℕ, ◌*◌, ◌≤◌, ◌∙◌, List, [], ◌∷◌, ◌++◌, subst}
-use Rattle.std.specs.Prelude.{Some}
-use Rattle.index_fn.specs.Mapping.{Mapping}
-use Rattle.std.proofs.lemmas.Option.{none-some, same_Some}
-use Rattle.sigma_lower.specs.TreeLoops.Merge.{PlainDiagonal, PlainPass, new_pass, scattered, multiplied}
+use Rattle.sigma_lower.proofs.Words.{◌≡◌, ℕ, ◌*◌, ◌≤◌, ◌∙◌, List, [], ◌∷◌, ◌++◌, subst, Some, Mapping, none-some}
+use Rattle.sigma_lower.proofs.Words.{same_Some, PlainDiagonal, PlainPass, new_pass, scattered, multiplied, AreSeveral}
+use Rattle.sigma_lower.proofs.Words.{PlainWork, kernel, rows, horner, tile, copy, work_size, trees_of, trees_size}
+use Rattle.sigma_lower.proofs.Words.{Layout, work, by, layout_size, IsGoodWork, IsGoodLayout, Blocks, Columns, Path}
+use Rattle.sigma_lower.proofs.Words.{size_under, size_under-push, Rule, Gt, Ct, several-push}
 use Rattle.sigma_lower.proofs.TreeLoops.PassLists.{AllPasses, all-append, all-last}
 use Rattle.sigma_lower.proofs.TreeLoops.TreePasses.{back, rule_waiting, rule_passes, layout_passes}
 use Rattle.sigma_spl.specs.Shared.Kernels.{IsMadeKernel}
-use Rattle.sigma_spl.specs.Limits.{AreSeveral}
-use Rattle.sigma_spl.proofs.Several.{several-push}
-use Rattle.sigma_spl.specs.Work.{PlainWork, kernel, rows, horner, tile, copy, work_size, trees_of}
-use Rattle.tree_model.specs.Trees.{trees_size}
-use Rattle.smp_rewrite.specs.LayoutSteps.Layout.{Layout, work, by, layout_size, IsGoodWork, IsGoodLayout}
-use Rattle.operators.specs.declared.tensor_paths.Tensor.TheVariants.{Blocks, Columns}
-use Rattle.operators.specs.TensorPaths.Path.{Path, size_under}
-use Rattle.operators.proofs.TensorPaths.Under.{size_under-push}
-use Rattle.tree_model.specs.declared.tree.Rule.{Rule}
-use Rattle.tree_model.specs.declared.tree.Rule.TheVariants.{Gt, Ct, Split, Dim}
 
 -- each work of the layout is such
 abbrev pub HasWorks : (PlainWork → Type 0) → Layout → Type 0
@@ -34,9 +24,7 @@ IsShapedWork m (copy size) = ⊥
 shaped-work : (m : ℕ) (w : PlainWork) → 1 ≤ work_size w → IsGoodWork m w → IsShapedWork m w
 shaped-work m (kernel trees) some h = (some, h)
 shaped-work m (rows root size) some h = h
-shaped-work m (horner root size) some h = absurd h
-shaped-work m (tile v) some h = absurd h
-shaped-work m (copy size) some h = absurd h
+shaped-work m _ some h = absurd h
 
 pub shaped_works : (m : ℕ) (l : Layout) → IsGoodLayout m l → HasWorks (IsShapedWork m) l
 shaped_works m (work w) h = shaped-work m w h.0 h.1
@@ -79,8 +67,7 @@ shaped_rule P size Gt path r s w left right fills l k =
 shaped_rule P size Ct path r s w left right fills l k =
     all-append (IsShaped P size) _ left
     (all-last (IsShaped P size) (multiplied path r s w) (λ p h. multiplied-shaped P size path r s w p fills h) right k) l
-shaped_rule P size Split path r s w left right fills l k = all-append (IsShaped P size) right left k l
-shaped_rule P size Dim path r s w left right fills l k = all-append (IsShaped P size) right left k l
+shaped_rule P size _ path r s w left right fills l k = all-append (IsShaped P size) right left k l
 
 pub shaped_passes : (P : PlainWork → Type 0) (m size : ℕ) (path : Path) (waiting : List Mapping) (l : Layout) →
     AreSeveral path → IsGoodLayout m l →

@@ -1,4 +1,3 @@
-pub mod Vectors
 pub mod Naturals
 pub mod Merging
 pub mod Lanes

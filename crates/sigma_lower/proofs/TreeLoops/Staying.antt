@@ -1,9 +1,6 @@
 -- Sums on which one function after the other has room, and stays below the size.
-use Rattle.std.proofs.Common.{◌≡◌, ℕ, refl, List, [], ◌∷◌, ◌++◌}
-use Rattle.index_fn.specs.Mapping.{Mapping}
-use Rattle.perm_algebra.specs.Affine.{Sum, simplified}
-use Rattle.perm_algebra.specs.Room.{HasRoomFor}
-use Rattle.sigma_lower.specs.TreeLoops.Placed.{Fits, IsCarried, all_simplified}
+use Rattle.sigma_lower.proofs.Words.{◌≡◌, ℕ, refl, List, [], ◌∷◌, ◌++◌, Mapping, Sum, simplified, HasRoomFor, Fits}
+use Rattle.sigma_lower.proofs.Words.{IsCarried, all_simplified}
 
 -- each function has room where those before it have led, below n
 abbrev pub StaysIn : (ℕ → ℕ) → ℕ → List Mapping → Sum → Type 0

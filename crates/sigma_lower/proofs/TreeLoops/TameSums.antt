@@ -1,19 +1,16 @@
 -- Sums whose remainders are of small numbers, in few parts.
-use Rattle.std.proofs.Common.{◌≡◌, ℕ, suc, ◌+◌, ◌-◌, ◌*◌, ◌%◌, ◌^◌, ◌<◌, ◌≤◌, true, inl, inr, arith, sym, subst}
-use Rattle.std.proofs.Common.{le-mul_of_pos_right}
-use Rattle.std.proofs.Math.Nat.{pow-succ', mul-le-mul}
-use Rattle.std.proofs.Math.Pow.{pow_mono}
-use Rattle.std.proofs.lemmas.Bool.{cases_eq, cases_lt, and_from}
-use Rattle.std.proofs.lemmas.Bool.Decides.{nat_tests}
-use Rattle.std.proofs.lemmas.Nat.{pow-add}
-use Rattle.sigma_spl.specs.Merge.{total, are_small, is_limited}
+use Rattle.sigma_lower.proofs.Words.{chosen, ◌==◌, ◌≡◌, ℕ, suc, ◌+◌, ◌-◌, ◌*◌, ◌%◌, ◌^◌, ◌<◌, ◌≤◌, true, inl, inr}
+use Rattle.sigma_lower.proofs.Words.{arith, sym, subst, le-mul_of_pos_right, pow-succ', mul-le-mul, pow_mono, cases_lt}
+use Rattle.sigma_lower.proofs.Words.{and_from, nat_tests, IsProper, Sum, constant, variable, remainder, quotient, top}
+use Rattle.sigma_lower.proofs.Words.{scaled, joined, mods, Fits, pow-add, is_limited, parts, reduced, mods-proper}
+use Rattle.sigma_lower.proofs.Words.{parts-scaled, parts-joined, IsTame}
+use Rattle.sigma_spl.specs.Merge.{total, are_small}
 use Rattle.sigma_spl.proofs.Small.{divided-true}
 use Rattle.sigma_spl.proofs.Within.{limited, small-true}
-use Rattle.perm_algebra.specs.Affine.{AreBelow, HasNoQuotient, IsProper, Sum, constant, variable, remainder, quotient}
-use Rattle.perm_algebra.specs.Affine.{top, levels, parts, scaled, joined, mods, reduced}
-use Rattle.perm_algebra.proofs.Reduced.{mods-below, mods-proper}
-use Rattle.perm_algebra.proofs.Sizes.{is_reduced, parts-scaled, parts-joined}
-use Rattle.sigma_lower.specs.TreeLoops.Placed.{Fits, IsSmallPart, IsTame}
+use Rattle.perm_algebra.specs.Affine.{AreBelow, HasNoQuotient, levels}
+use Rattle.perm_algebra.proofs.Reduced.{mods-below}
+use Rattle.perm_algebra.proofs.Sizes.{is_reduced}
+use Rattle.sigma_lower.specs.TreeLoops.Placed.{IsSmallPart}
 use Rattle.sigma_lower.proofs.TreeLoops.PlaceRoom.{peak-le-top, top-mods}
 
 -- ---- remainders of small numbers
@@ -42,15 +39,11 @@ tame-joined cs (quotient f of m rest) e h g = absurd h
 tame-mods : (cs : ℕ → ℕ) (n : ℕ) (e : Sum) → IsTame cs e → IsTame cs (mods n e)
 tame-mods cs n (constant c) h = tt
 tame-mods cs n (variable f d rest) h =
-    elim (cases_eq (f % n) 0) [
-      | inl gone ↦ grind (arith, nat_tests, tame-mods cs n rest h)
-      | inr other ↦ grind (arith, nat_tests, tame-mods cs n rest h)
-    ]
+    let more = tame-mods cs n rest h in
+    chosen (IsTame cs) (f % n == 0) (mods n rest) (variable (f % n) d (mods n rest)) (λ gone. more) more
 tame-mods cs n (remainder f of m rest) h =
-    elim (cases_eq (f % n) 0) [
-      | inl gone ↦ grind (arith, nat_tests, tame-mods cs n rest h.1)
-      | inr other ↦ grind (arith, nat_tests, h.0, tame-mods cs n rest h.1)
-    ]
+    let more = tame-mods cs n rest h.1 in
+    chosen (IsTame cs) (f % n == 0) (mods n rest) (remainder (f % n) of m (mods n rest)) (λ gone. more) (h.0, more)
 tame-mods cs n (quotient f of m rest) h = absurd h
 
 -- ---- small numbers

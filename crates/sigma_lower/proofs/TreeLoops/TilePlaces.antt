@@ -1,24 +1,15 @@
 -- The places of tiles.
-use Rattle.std.proofs.Common.{◌≡◌, ℕ, ◌+◌, ◌*◌, ◌/◌, ◌<◌, arith, sym, ap, ◌∙◌, List, [], ◌∷◌, ◌++◌, if◌then◌else◌}
-use Rattle.std.proofs.Common.{subst}
-use Rattle.std.specs.Prelude.{◌==◌, Option, Some}
-use Rattle.index_fn.specs.Mapping.{Mapping, Same}
-use Rattle.operators.specs.declared.target.Target.{Target}
-use Rattle.sigma_spl.specs.Limits.{AreSeveral}
-use Rattle.perm_algebra.specs.Affine.{Sum, constant, variable}
-use Rattle.sigma_lower.specs.TreeLoops.Merge.{PlainDiagonal, PlainPass}
-use Rattle.sigma_lower.specs.TreeLoops.Placed.{Fits, IsCarried, place_sum, AreCounts, all_simplified, diagonal_places}
-use Rattle.sigma_lower.specs.TreeLoops.Placed.{ArePlacesLimited, IsLimitedPass}
+use Rattle.sigma_lower.proofs.Words.{◌≡◌, ℕ, ◌+◌, ◌*◌, ◌/◌, ◌<◌, arith, sym, ap, ◌∙◌, List, [], ◌∷◌, ◌++◌}
+use Rattle.sigma_lower.proofs.Words.{if◌then◌else◌, subst, ◌==◌, Option, Some, Mapping, Same, Target, AreSeveral, Sum}
+use Rattle.sigma_lower.proofs.Words.{constant, variable, PlainDiagonal, PlainPass, Fits, IsCarried, place_sum}
+use Rattle.sigma_lower.proofs.Words.{AreCounts, all_simplified, diagonal_places, IsLimitedPass, tile_path}
+use Rattle.sigma_lower.proofs.Words.{vectors_grouped, tile, Blocks, Path, size_under, ArePlacesLimited}
 use Rattle.sigma_lower.proofs.TreeLoops.LineMoves.{LeadsTo, leads-same, grouped-leads, number-fits}
 use Rattle.sigma_lower.proofs.TreeLoops.PlaceLimits.{natural-fits}
 use Rattle.sigma_lower.proofs.TreeLoops.RightPlaces.{wide-all}
 use Rattle.sigma_lower.proofs.TreeLoops.RootShares.{AreShares, rows_some, tiles_fill, tiles_some, tiles_small}
 use Rattle.sigma_lower.proofs.TreeLoops.Staying.{StaysIn, carried-end, carried-push}
 use Rattle.sigma_lower.proofs.TreeLoops.WithinPlaces.{size-all, natural-placed, natural-copies}
-use Rattle.sigma_lower.specs.TreeTerms.Root.{tile_path, vectors_grouped}
-use Rattle.sigma_spl.specs.Work.{tile}
-use Rattle.operators.specs.declared.tensor_paths.Tensor.TheVariants.{Blocks}
-use Rattle.operators.specs.TensorPaths.Path.{Path, size_under}
 
 module _ (size p v r s : ℕ) (h : AreShares size p v r s) where
   abbrev three : Path

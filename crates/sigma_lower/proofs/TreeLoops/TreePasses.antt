@@ -1,19 +1,10 @@
 -- The passes of a layout, by recursion on it, and that they are those of the cost model.
-use Rattle.std.proofs.Common.{◌≡◌, ℕ, ◌*◌, Bool, true, false, List, [], ◌∷◌, ◌++◌, refl, ap, ap₂, ◌∙◌}
-use Rattle.std.specs.Prelude.{map}
-use Rattle.std.proofs.lemmas.List.{map-append}
-use Rattle.index_fn.specs.Mapping.{Mapping, Strided, ThomasIn, ThomasBack}
-use Rattle.sigma_lower.specs.TreeLoops.Merge.{PlainPass, new_pass, scattered, multiplied, at_last}
-use Rattle.sigma_lower.specs.TreeLoops.Laws.{has_diagonal, counted_as, counted, with_twiddles, twiddle_last, twiddle_by}
-use Rattle.sigma_lower.specs.TreeLoops.Laws.{passes_of}
-use Rattle.sigma_spl.specs.Work.{PlainWork, kernel, rows, horner, tile, copy}
-use Rattle.smp_rewrite.specs.LayoutSteps.Layout.{Layout, work, by, layout_size, IsGoodLayout, IsGoodWork}
-use Rattle.sigma_lower.specs.TreeTerms.Wrapped.{wrapped, unit_of}
-use Rattle.operators.specs.declared.tensor_paths.Tensor.TheVariants.{Blocks, Columns}
-use Rattle.operators.specs.TensorPaths.Path.{Path, copies_of}
-use Rattle.operators.proofs.TensorPaths.Under.{copies_of-push}
-use Rattle.tree_model.specs.declared.tree.Rule.{Rule}
-use Rattle.tree_model.specs.declared.tree.Rule.TheVariants.{Gt, Ct, Split, Dim}
+use Rattle.sigma_lower.proofs.Words.{◌≡◌, ℕ, ◌*◌, Bool, true, false, List, [], ◌∷◌, ◌++◌, refl, ap, ap₂, ◌∙◌, map}
+use Rattle.sigma_lower.proofs.Words.{map-append, Mapping, Strided, ThomasIn, ThomasBack, PlainPass, new_pass, scattered}
+use Rattle.sigma_lower.proofs.Words.{multiplied, at_last, has_diagonal, counted_as, counted, with_twiddles}
+use Rattle.sigma_lower.proofs.Words.{twiddle_last, twiddle_by, passes_of, PlainWork, kernel, rows, Layout, work, by}
+use Rattle.sigma_lower.proofs.Words.{layout_size, IsGoodLayout, IsGoodWork, wrapped, unit_of, Blocks, Columns, Path}
+use Rattle.sigma_lower.proofs.Words.{copies_of, Rule, Gt, Ct, Split, Dim, copies_of-push}
 
 -- the gathers that wait when a rule's right part begins
 abbrev pub rule_waiting : Rule → Path → ℕ → ℕ → List Mapping → List Mapping
@@ -60,17 +51,15 @@ full-mapped f (p ∷ ps) h = tt
 
 pub at_last-append : (f : PlainPass → PlainPass) (ps qs : List PlainPass) → IsFull qs →
     at_last f (ps ++ qs) ≡ ps ++ at_last f qs
-at_last-append f [] qs h = refl
 at_last-append f (p ∷ []) [] h = absurd h
-at_last-append f (p ∷ []) (q ∷ qs) h = refl
 at_last-append f (p ∷ r ∷ ps) qs h = ap (λ rest. p ∷ rest) (at_last-append f (r ∷ ps) qs h)
+at_last-append f _ _ h = refl
 
 full_rule : (rule : Rule) (path : Path) (r s w : ℕ) (left right : List PlainPass) → IsFull left →
     IsFull (rule_passes rule path r s w left right)
 full_rule Gt path r s w left right h = full-append right _ (full-at_last _ left h)
 full_rule Ct path r s w left right h = full-append (at_last (multiplied path r s w) right) left h
-full_rule Split path r s w left right h = full-append right left h
-full_rule Dim path r s w left right h = full-append right left h
+full_rule _ path r s w left right h = full-append right left h
 
 pub full_passes : (path : Path) (waiting : List Mapping) (l : Layout) → IsFull (layout_passes path waiting l)
 full_passes path waiting (work w) = tt
@@ -81,16 +70,12 @@ full_passes path waiting (by rule root a b) =
 -- ---- they are the passes of the cost model
 
 counted-scattered : (f : Mapping) (ps : List PlainPass) → map counted (at_last (scattered f) ps) ≡ map counted ps
-counted-scattered f [] = refl
-counted-scattered f (p ∷ []) = refl
 counted-scattered f (p ∷ q ∷ ps) = ap (λ rest. counted p ∷ rest) (counted-scattered f (q ∷ ps))
+counted-scattered f _ = refl
 
 with-diagonal : (n : ℕ) (w : PlainWork) (b : Bool) → counted_as n w true ≡ with_twiddles (counted_as n w b)
 with-diagonal n (kernel trees) b = refl
-with-diagonal n (rows root size) b = refl
-with-diagonal n (horner root size) b = refl
-with-diagonal n (tile v) b = refl
-with-diagonal n (copy size) b = refl
+with-diagonal n _ b = refl
 
 pub counted-multiplied : (path : Path) (r s w : ℕ) (ps : List PlainPass) →
     map counted (at_last (multiplied path r s w) ps) ≡ twiddle_last (map counted ps)
@@ -102,16 +87,13 @@ counted_rule : (rule : Rule) (path : Path) (r s w : ℕ) (left right : List Plai
     map counted (rule_passes rule path r s w left right) ≡ twiddle_by rule (map counted right) ++ map counted left
 counted_rule Gt path r s w left right = map-append counted right _ ∙ ap (λ rest. map counted right ++ rest) (counted-scattered _ left)
 counted_rule Ct path r s w left right = map-append counted (at_last (multiplied path r s w) right) left ∙ ap (λ rest. rest ++ map counted left) (counted-multiplied path r s w right)
-counted_rule Split path r s w left right = map-append counted right left
-counted_rule Dim path r s w left right = map-append counted right left
+counted_rule _ path r s w left right = map-append counted right left
 
 -- a work of a good layout is no tile
 counted-work : (m n : ℕ) (w : PlainWork) → IsGoodWork m w → counted_as n w false ∷ [] ≡ passes_of n (work w)
 counted-work m n (kernel trees) h = refl
 counted-work m n (rows root size) h = refl
-counted-work m n (horner root size) h = absurd h
-counted-work m n (tile v) h = absurd h
-counted-work m n (copy size) h = absurd h
+counted-work m n _ h = absurd h
 
 pub counted_passes : (m : ℕ) (path : Path) (waiting : List Mapping) (l : Layout) → IsGoodLayout m l →
     map counted (layout_passes path waiting l) ≡ passes_of (copies_of path) l

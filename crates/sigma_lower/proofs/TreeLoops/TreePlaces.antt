@@ -1,20 +1,28 @@
 -- The places of all passes of a layout.
-use Rattle.std.proofs.Common.{◌≡◌, Bool, true, false, refl, sym, subst}
-use Rattle.sigma_lower.specs.TreeLoops.Merge.{in_order, merged_of}
-use Rattle.sigma_lower.proofs.TreeLoops.GoodPlaces.{HaveGoodPlaces, plain_good}
+use Rattle.sigma_lower.proofs.Words.{◌≡◌, Bool, true, false, refl, sym, subst, in_order, merged_of, PlainWork, tile}
+use Rattle.sigma_lower.proofs.Words.{CanShareLayout, Layout, IsGoodLayout, is_alone, Target, []}
+use Rattle.sigma_lower.proofs.TreeLoops.PartRules.{IsSize}
+use Rattle.sigma_lower.proofs.TreeLoops.PlaceLimits.{ArePlaced, size_in, whole_placed}
 use Rattle.sigma_lower.proofs.TreeLoops.RootMerging.{root_merged}
-use Rattle.sigma_lower.proofs.TreeLoops.RootPlaces.{root_good}
-use Rattle.sigma_lower.proofs.TreeLoops.Shaped.{HasWorks, IsShapedWork, shaped_works}
-use Rattle.sigma_spl.specs.Work.{PlainWork, tile}
-use Rattle.smp_rewrite.specs.Fits.{CanShareLayout}
-use Rattle.smp_rewrite.specs.LayoutSteps.Layout.{Layout, IsGoodLayout}
-use Rattle.sigma_spl.specs.Shared.Targets.{is_alone}
-use Rattle.operators.specs.declared.target.Target.{Target}
+use Rattle.sigma_lower.proofs.TreeLoops.RootPlaces.{HaveGoodPlaces, good-both, root_good}
+use Rattle.sigma_lower.proofs.TreeLoops.Shaped.{HasWorks, IsShapedWork, shaped_passes, shaped_works}
+use Rattle.sigma_lower.proofs.TreeLoops.TreePasses.{layout_passes}
+use Rattle.sigma_lower.proofs.TreeLoops.Wholes.{plain_passes}
+
+-- on one processor and one lane
+tree_good : (c : Target) (P : PlainWork → Type 0) (l : Layout) → CanShareLayout c l → IsGoodLayout c.modulus l →
+    HasWorks P l → HaveGoodPlaces c P (layout_passes [] [] l)
+tree_good c P l shares good all =
+    good-both c P (layout_passes [] [] l)
+    (subst (λ n. ArePlaced n [] n (layout_passes [] [] l)) shares.size
+    (whole_placed c.modulus l (subst IsSize (sym shares.size) (size_in c l shares)) good))
+    (shaped_passes P c.modulus c.size [] [] l tt good all shares.size)
 
 good_either : (c : Target) (P : PlainWork → Type 0) (l : Layout) → CanShareLayout c l → IsGoodLayout c.modulus l →
     HasWorks P l → P (tile c.lanes) → (b : Bool) → is_alone c ≡ b →
     HaveGoodPlaces c P (merged_of c l)
-good_either c P l shares good all over true plain = plain_good c P l shares good all plain
+good_either c P l shares good all over true plain =
+    subst (HaveGoodPlaces c P) (sym (plain_passes c l plain)) (tree_good c P l shares good all)
 good_either c P l shares good all over false shared =
     subst (λ phases. HaveGoodPlaces c P (in_order phases)) (sym (root_merged c l shares good shared)) (root_good c P l shares good all over shared)
 

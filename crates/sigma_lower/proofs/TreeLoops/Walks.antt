@@ -1,22 +1,13 @@
 -- Laws of the terms of a layout. A law says between which points terms may stand. It holds of a layout's terms if it
 -- holds of those of each step, and of the right part of a root if it holds of the pieces of that.
-use Rattle.std.proofs.Common.{◌≡◌, ℕ, ◌*◌, sym, subst, ◌∙◌, List, [], ◌∷◌, ◌++◌, append_assoc, append-nil}
-use Rattle.std.specs.Prelude.{map}
-use Rattle.sigma_lower.specs.TreeLoops.Merge.{Merging, merged}
-use Rattle.sigma_lower.specs.TreeTerms.Root.{right_path, right_terms, tiled_after, tiled_before, turned_in}
-use Rattle.sigma_lower.specs.TreeTerms.Term.{PlainTerm, diag, lowered}
+use Rattle.sigma_lower.proofs.Words.{◌≡◌, ℕ, ◌*◌, sym, subst, ◌∙◌, List, [], ◌∷◌, ◌++◌, append_assoc, append-nil, map}
+use Rattle.sigma_lower.proofs.Words.{Merging, merged, right_path, right_terms, tiled_after, tiled_before, turned_in}
+use Rattle.sigma_lower.proofs.Words.{PlainTerm, diag, lowered, PlainWork, work_size, Layout, work, by, layout_size}
+use Rattle.sigma_lower.proofs.Words.{IsGoodLayout, IsGoodWork, PlainStep, piece, step, turns, twiddles, thomas_in}
+use Rattle.sigma_lower.proofs.Words.{thomas_out, rule_steps, steps_of, Tensor, Blocks, Columns, Path, size_under}
+use Rattle.sigma_lower.proofs.Words.{size_under-push, Rule, Gt, Ct, Split}
 use Rattle.sigma_lower.proofs.TreeLoops.Emitted.{Emission, emitted, emitted-append, merged-append}
 use Rattle.sigma_lower.proofs.TreeTerms.RootTerms.{IsShared}
-use Rattle.sigma_spl.specs.Work.{PlainWork, work_size}
-use Rattle.smp_rewrite.specs.LayoutSteps.Layout.{Layout, work, by, layout_size, IsGoodLayout, IsGoodWork}
-use Rattle.smp_rewrite.specs.LayoutSteps.Step.{PlainStep, piece, step, turns, twiddles, thomas_in, thomas_out}
-use Rattle.smp_rewrite.specs.LayoutSteps.Step.{rule_steps, steps_of}
-use Rattle.operators.specs.declared.tensor_paths.Tensor.{Tensor}
-use Rattle.operators.specs.declared.tensor_paths.Tensor.TheVariants.{Blocks, Columns}
-use Rattle.operators.specs.TensorPaths.Path.{Path, size_under}
-use Rattle.operators.proofs.TensorPaths.Under.{size_under-push}
-use Rattle.tree_model.specs.declared.tree.Rule.{Rule}
-use Rattle.tree_model.specs.declared.tree.Rule.TheVariants.{Gt, Ct, Split, Dim}
 
 -- there is nothing yet; gathers may wait; a transform was the last; it, or tiles, can take a root's diagonal; none waits
 pub data Point : Type 0 where
@@ -87,8 +78,7 @@ module _ (T : Point → List PlainTerm → Point → Type 0) (law : IsLaw T) whe
         (steps-both ready done done right (step (pre ++ path) (twiddles r s w) ∷ left) on_right
         (law.both done ready done (emit (pre ++ path) (twiddles r s w)) (emitted emit left)
         (keeps.twiddled path r s w e) on_left))
-    rule-law Split path r s w left right e on_left on_right = parts-law left right on_left on_right
-    rule-law Dim path r s w left right e on_left on_right = parts-law left right on_left on_right
+    rule-law _ path r s w left right e on_left on_right = parts-law left right on_left on_right
 
     pub steps-law : (path : Path) (l : Layout) → IsGoodLayout m l → size_under (pre ++ path) (layout_size l) ≡ n →
         T ready (emitted emit (steps_of (pre ++ path) l)) done
@@ -134,8 +124,7 @@ module _ (T : Point → List PlainTerm → Point → Type 0) (law : IsLaw T) whe
           law.both begun ready settled (turned_in p v (layout_size a) (layout_size b)) _ keeps.turned
           (law.both ready done settled steps _ keeps.steps
           (law.both done tiled settled tiles (diag [] (layout_size a) (layout_size b) w ∷ []) keeps.after keeps.twiddled))
-      right-law Split shared = split-law
-      right-law Dim shared = split-law
+      right-law _ shared = split-law
 
 -- ---- laws of the passes that terms are merged into
 

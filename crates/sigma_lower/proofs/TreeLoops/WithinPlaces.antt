@@ -1,19 +1,11 @@
 -- Places under tensors of which those of one copy are left out: they are the places under all of them, where 0 names the one copy.
-use Rattle.std.proofs.Common.{◌≡◌, ℕ, ◌+◌, ◌≤◌, Bool, true, false, arith, refl, sym, ap, ap₂, ◌∙◌, List, [], ◌∷◌}
-use Rattle.std.proofs.Common.{if◌then◌else◌, subst}
-use Rattle.std.specs.Prelude.{◌==◌}
-use Rattle.index_fn.specs.Mapping.{Mapping}
-use Rattle.perm_algebra.specs.Affine.{Sum, constant, variable, scaled, joined, simplified}
-use Rattle.perm_algebra.specs.Room.{HasRoomFor}
-use Rattle.sigma_lower.specs.TreeLoops.Placed.{Fits, place_sum, AreCounts}
+use Rattle.sigma_lower.proofs.Words.{◌≡◌, ℕ, ◌+◌, ◌≤◌, Bool, true, false, arith, refl, sym, ap, ap₂, ◌∙◌, List, [], ◌∷◌}
+use Rattle.sigma_lower.proofs.Words.{if◌then◌else◌, subst, ◌==◌, Mapping, Sum, constant, variable, scaled, joined}
+use Rattle.sigma_lower.proofs.Words.{simplified, HasRoomFor, Fits, place_sum, AreCounts, wrapped, is-one, size-within}
+use Rattle.sigma_lower.proofs.Words.{within_all, Tensor, Blocks, Columns, Path, count_of, grown, size_under}
 use Rattle.sigma_lower.proofs.TreeLoops.InCopies.{placed, AreCopies, simplified-placed, room-placed}
 use Rattle.sigma_lower.proofs.TreeLoops.Moved.{fits-one, placed-one_block, placed-one_column}
 use Rattle.sigma_lower.proofs.TreeLoops.PlaceSums.{variable-fits}
-use Rattle.sigma_lower.specs.TreeTerms.Wrapped.{wrapped}
-use Rattle.smp_rewrite.proofs.Tensors.{is-one, size-within, within_all}
-use Rattle.operators.specs.declared.tensor_paths.Tensor.{Tensor}
-use Rattle.operators.specs.declared.tensor_paths.Tensor.TheVariants.{Blocks, Columns}
-use Rattle.operators.specs.TensorPaths.Path.{Path, count_of, grown, size_under}
 
 pub size-all : (ts : Path) (n : ℕ) → size_under (within_all ts []) n ≡ size_under ts n
 size-all [] n = refl

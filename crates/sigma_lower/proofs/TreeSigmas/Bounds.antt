@@ -1,25 +1,15 @@
 -- How many actions the loops of a tree have at most.
-use Rattle.std.proofs.Common.{◌≡◌, ℕ, zero, suc, ◌+◌, ◌*◌, ◌^◌, ◌≤◌, List, [], ◌∷◌, length, refl, sym, ap, ◌∙◌, arith}
-use Rattle.std.proofs.Common.{Option, Some, None, mul-le-mul_left}
-use Rattle.std.specs.Prelude.{All, map}
-use Rattle.std.proofs.Math.Nat.{mul-le-mul}
-use Rattle.std.proofs.lemmas.List.Elements.{All-nil, All-cons, All-head, All-tail}
+use Rattle.sigma_lower.proofs.Words.{◌≡◌, ℕ, zero, suc, ◌+◌, ◌*◌, ◌^◌, ◌≤◌, List, [], ◌∷◌, length, refl, sym, ap, ◌∙◌}
+use Rattle.sigma_lower.proofs.Words.{arith, Option, Some, None, mul-le-mul_left, All, map, mul-le-mul, All-nil}
+use Rattle.sigma_lower.proofs.Words.{All-cons, All-head, All-tail, Target, Path, copies_of, count_of, size_under-copies}
+use Rattle.sigma_lower.proofs.Words.{copies_in, multiplier_cost, PlainLoop, nest_of, one_nest, PlainMultiplier}
+use Rattle.sigma_lower.proofs.Words.{pass_cost, pass_loads, work_cost, IsHost, PlainWork, kernel, rows, tile, work_size}
+use Rattle.sigma_lower.proofs.Words.{trees_of, PlainPass, loop_of, trees_size, most_actions}
 use Rattle.kernel_gen.proofs.KernelSizes.{trees-few}
-use Rattle.operators.specs.declared.target.Target.{Target}
-use Rattle.operators.specs.TensorPaths.Path.{Path, copies_of, count_of}
-use Rattle.operators.proofs.TensorPaths.Under.{size_under-copies}
-use Rattle.sigma_spl.specs.Counts.{copies_in, multiplier_cost}
-use Rattle.sigma_spl.specs.Loops.{PlainLoop, nest_of, one_nest}
-use Rattle.sigma_spl.specs.Nest.{PlainMultiplier}
-use Rattle.sigma_spl.specs.Shared.Costs.{pass_cost, pass_loads, work_cost, work_loads}
-use Rattle.sigma_spl.specs.Shared.Owners.{IsHost, most_actions}
-use Rattle.sigma_spl.specs.Work.{PlainWork, kernel, rows, horner, tile, copy, work_size, trees_of}
-use Rattle.sigma_lower.specs.TreeLoops.Merge.{PlainPass}
-use Rattle.sigma_lower.specs.TreeLoops.Nests.{loop_of}
+use Rattle.sigma_spl.specs.Shared.Costs.{work_loads}
 use Rattle.sigma_lower.proofs.TreeLoops.Shaped.{IsShapedWork}
 use Rattle.sigma_lower.proofs.TreeSigmas.Known.{AllKnown, IsKnown}
 use Rattle.sigma_lower.proofs.TreeSigmas.Ready.{n-small}
-use Rattle.tree_model.specs.Trees.{trees_size}
 
 pub copies-are : (path : Path) → copies_in (map count_of path) ≡ copies_of path
 copies-are [] = refl
@@ -58,9 +48,8 @@ module _ (c : Target) where
       let price = trees-few c.modulus (trees_of k) shaped.1.trees in
       record { operations = omega (arith, price); loads = square-le (trees_size (trees_of k)) }
   modest (rows root size) shaped = record { operations = omega arith; loads = omega arith }
-  modest (horner root size) shaped = absurd shaped
   modest (tile v) shaped = record { operations = omega arith; loads = square-le (v * v) }
-  modest (copy size) shaped = absurd shaped
+  modest _ shaped = absurd shaped
 
   -- a loop over all words, of such copies
   pub record IsBounded (p : PlainLoop) : Type 0 where

@@ -1,25 +1,14 @@
 -- The passes of an inverse in the cost model are those of the forward request, with products more in the last.
-use Rattle.std.proofs.Common.{◌≡◌, ℕ, ◌+◌, ◌*◌, true, false, List, [], ◌∷◌, Option, None, Some, refl, sym, ap, ◌∙◌}
-use Rattle.std.proofs.Common.{arith, subst}
-use Rattle.std.specs.Prelude.{map}
-use Rattle.std.proofs.lemmas.Simd.{map-map}
-use Rattle.matrix_meaning.specs.declared.Dimensions.TheVariants.{One}
-use Rattle.matrix_meaning.specs.declared.Kind.{Kind}
-use Rattle.matrix_meaning.specs.declared.Kind.TheVariants.{Dft, Wht, Idft}
-use Rattle.matrix_meaning.specs.declared.Request.{Request}
-use Rattle.matrix_meaning.specs.Parts.{forward_by, forward_of, inverted}
-use Rattle.matrix_meaning.specs.Valid.{IsValid}
+use Rattle.sigma_lower.proofs.Words.{◌≡◌, ℕ, ◌+◌, ◌*◌, false, List, [], ◌∷◌, Option, None, Some, refl, sym, ap, ◌∙◌}
+use Rattle.sigma_lower.proofs.Words.{arith, subst, map, One, Kind, Dft, Idft, Request, forward_by, forward_of, IsValid}
+use Rattle.sigma_lower.proofs.Words.{on_last, Dim, Breakdown, node, IsWholeTree, request_passes, map-map, factor_by}
+use Rattle.sigma_lower.proofs.Words.{closed_by, cost_of_pass, flat_passes, loads_of_pass, pass_of}
+use Rattle.matrix_meaning.specs.Parts.{inverted}
 use Rattle.matrix_meaning.proofs.Parts.{is_of_one_size}
-use Rattle.sigma_spl.specs.Lists.{on_last}
-use Rattle.smp_rewrite.specs.LayoutSteps.Whole.{factor_by}
-use Rattle.tree_model.specs.declared.tree.Rule.TheVariants.{Gt, Ct, Split, Dim}
-use Rattle.tree_model.specs.Breakdown.{Breakdown, leaf, node}
-use Rattle.tree_model.specs.Chosen.{IsWholeTree}
 use Rattle.tree_model.specs.Cost.{mul_cost_of}
 use Rattle.tree_model.specs.Passes.{Pass, nodes, tiles, pass_loads, twiddle_last, whole_passes, with_twiddles}
 use Rattle.tree_model.specs.Whole.{IsTreeOf}
-use Rattle.tree_model.specs.WholePasses.{closed_by, cost_of_pass, flat_passes, loads_of_pass, pass_cost_in, pass_of}
-use Rattle.tree_model.specs.WholePasses.{request_passes}
+use Rattle.tree_model.specs.WholePasses.{pass_cost_in}
 use Rattle.tree_model.proofs.PassLaws.{IsPlainAtEnd, IsPlainPass}
 use Rattle.tree_model.proofs.WholeCosts.{whole_plain}
 use Rattle.tree_model.proofs.WholeTraffic.{IsFlat}
@@ -38,10 +27,9 @@ more_by weight n (Some v) cs = more_last (weight * n) cs
 module _ (p : Request) (n : ℕ) where
   closed-cost : (pass : Pass) → IsPlainPass pass →
       pass_cost_in p n (with_twiddles pass) ≡ pass_cost_in p n pass + mul_cost_of p * n
-  closed-cost (nodes count tree true) h = cc
   closed-cost (nodes count tree false) h = omega arith
-  closed-cost (tiles true) h = cc
   closed-cost (tiles false) h = omega arith
+  closed-cost _ h = cc
 
   costs-last : (ps : List Pass) → IsPlainAtEnd ps →
       map (pass_cost_in p n) (twiddle_last ps) ≡ more_last (mul_cost_of p * n) (map (pass_cost_in p n) ps)
@@ -68,18 +56,12 @@ module _ (p : Request) (n : ℕ) where
 -- ---- an inverse is of one size
 
 flat-of : (p : Request) (t : Breakdown) → IsTreeOf p t → p.dimensions ≡ One → IsFlat t
-flat-of p (leaf d) h one = tt
-flat-of p (node Gt a b) h one = tt
-flat-of p (node Ct a b) h one = tt
-flat-of p (node Split a b) h one = tt
 flat-of p (node Dim a b) h one = h.2.0 one
+flat-of p _ h one = tt
 
 passes-flat : (c : Request) (t : Breakdown) → IsFlat t → request_passes c t ≡ flat_passes c t
-passes-flat c (leaf d) flat = refl
-passes-flat c (node Gt a b) flat = refl
-passes-flat c (node Ct a b) flat = refl
-passes-flat c (node Split a b) flat = refl
 passes-flat c (node Dim a b) flat = absurd flat
+passes-flat c _ flat = refl
 
 module _ (c : Request) (t : Breakdown) (valid : IsValid c) (tree : IsWholeTree c t) where
   module _ (inverse : c.kind ≡ Idft) where
@@ -127,9 +109,8 @@ module _ (c : Request) (t : Breakdown) (valid : IsValid c) (tree : IsWholeTree c
           map (cost_of_pass c.size) (request_passes c t)
           ≡ more_by c.weight c.size (factor_by kind c)
           (map (cost_of_pass c.size) (request_passes (forward_by kind c) t))
-      pick Dft is = refl
-      pick Wht is = refl
       pick Idft is = inverse-costs is
+      pick _ is = refl
 
   pub closed_loads :
       map (loads_of_pass c.size) (request_passes c t) ≡ map (loads_of_pass c.size) (request_passes (forward_of c) t)
@@ -138,6 +119,5 @@ module _ (c : Request) (t : Breakdown) (valid : IsValid c) (tree : IsWholeTree c
       pick : (kind : Kind) → c.kind ≡ kind →
           map (loads_of_pass c.size) (request_passes c t)
           ≡ map (loads_of_pass c.size) (request_passes (forward_by kind c) t)
-      pick Dft is = refl
-      pick Wht is = refl
       pick Idft is = inverse-loads is
+      pick _ is = refl

@@ -1,22 +1,17 @@
 -- The closing diagonal of a term is taken into its last loop, each item of which then takes the first entry.
-use Rattle.std.proofs.Common.{◌≡◌, ℕ, zero, suc, ◌+◌, ◌*◌, ◌<◌, ◌≤◌, Bool, true, false, List, [], ◌∷◌, ◌++◌, length}
-use Rattle.std.proofs.Common.{refl, sym, ap, ◌∙◌, arith, subst, Some, None, if◌then◌else◌}
-use Rattle.std.specs.Prelude.{map, not, reverse, slice_index, slice_index_or, ◌==◌, ◌&&◌}
-use Rattle.std.proofs.lemmas.List.{length-map, reverse-append, reverse-reverse}
-use Rattle.operators.specs.declared.target.Target.{Target}
-use Rattle.operators.specs.declared.tensor_paths.Tensor.TheVariants.{Blocks}
-use Rattle.perm_algebra.specs.Affine.{Sum, constant, value}
-use Rattle.sigma_spl.specs.Good.{AreSound, NamesItems, named}
-use Rattle.sigma_spl.specs.Lists.{on_last}
-use Rattle.sigma_spl.specs.Loops.{PlainLoop, PlainTaken, limits_in, nest_of, one_nest, places_by, scaled_last}
-use Rattle.sigma_spl.specs.Loops.{AreCarried, AreLimitedLoops, CanScale, HasLoop, IsLimitedLoop}
-use Rattle.sigma_spl.specs.Merge.{is_tile, items_out, most, place_sum, suits}
-use Rattle.sigma_spl.specs.Nest.{PlainMultiplier, PlainNest, factor_at, factor_count, repeated, store_place, sum_value}
-use Rattle.sigma_spl.specs.Shared.Machine.{item_of, lane_step, values_of}
-use Rattle.sigma_spl.specs.Shared.Ready.{IsReadyMultiplier, IsReadyNest, LoadsAlike}
-use Rattle.sigma_spl.specs.Shared.Running.{CanRunNest}
-use Rattle.sigma_spl.specs.Trees.{IsReadyLoop}
-use Rattle.sigma_spl.specs.Work.{PlainWork, kernel, rows, horner, tile, copy, work_size}
+use Rattle.sigma_lower.proofs.Words.{◌≡◌, ℕ, suc, ◌+◌, ◌*◌, ◌<◌, ◌≤◌, Bool, true, false, List, [], ◌∷◌, ◌++◌, length}
+use Rattle.sigma_lower.proofs.Words.{refl, sym, ap, ◌∙◌, arith, subst, Some, None, if◌then◌else◌, map, not, reverse}
+use Rattle.sigma_lower.proofs.Words.{slice_index, ◌==◌, ◌&&◌, length-map, reverse-append, reverse-reverse, Target}
+use Rattle.sigma_lower.proofs.Words.{Blocks, Sum, constant, value, on_last, PlainLoop, PlainTaken, limits_in, nest_of}
+use Rattle.sigma_lower.proofs.Words.{one_nest, scaled_last, AreLimitedLoops, HasLoop, IsLimitedLoop, is_tile, items_out}
+use Rattle.sigma_lower.proofs.Words.{most, PlainMultiplier, PlainNest, factor_at, factor_count, store_place, item_of}
+use Rattle.sigma_lower.proofs.Words.{lane_step, values_of, IsReadyLoop, PlainWork, kernel, rows, horner, tile}
+use Rattle.sigma_lower.proofs.Words.{work_size, place_sum, slice_index_or, NamesItems, places_by, CanScale, repeated}
+use Rattle.sigma_lower.proofs.Words.{IsReadyMultiplier, IsReadyNest, LoadsAlike, CanRunNest}
+use Rattle.sigma_spl.specs.Good.{AreSound, named}
+use Rattle.sigma_spl.specs.Loops.{AreCarried}
+use Rattle.sigma_spl.specs.Merge.{suits}
+use Rattle.sigma_spl.specs.Nest.{sum_value}
 use Rattle.sigma_lower.proofs.TreeSigmas.ClosedPlaces.{AllAlone, all-carried, all-first, closing_path, closing_place}
 use Rattle.sigma_lower.proofs.TreeSigmas.Lasts.{last-append}
 
@@ -42,28 +37,23 @@ abbrev all_first : List Sum → List Sum
 all_first sums = map (λ _. constant 0) sums
 
 first-sum : (sums : List Sum) (i : ℕ) → slice_index_or (all_first sums) i (constant 0) ≡ constant 0
-first-sum [] i = refl
-first-sum (e ∷ sums) zero = refl
 first-sum (e ∷ sums) (suc i) = first-sum sums i
+first-sum _ _ = refl
 
 first-value : (sums : List Sum) (i : ℕ) (vs : List ℕ) → sum_value (all_first sums) i vs ≡ 0
 first-value sums i vs = ap (λ e. value e (slice_index vs)) (first-sum sums i)
 
 first-is : (w : PlainWork) (sums : List Sum) (vs : List ℕ) (k : ℕ) → is_tile w ≡ false →
     store_place w (all_first sums) vs k ≡ 0
-first-is (kernel trees) sums vs k whole = first-value sums k vs
 first-is (rows root size) sums vs k whole = first-value sums 0 _
 first-is (horner root size) sums vs k whole = first-value sums 0 _
 first-is (tile lanes) sums vs k whole = absurd (cc)
-first-is (copy size) sums vs k whole = first-value sums k vs
+first-is _ sums vs k whole = first-value sums k vs
 
 -- all lanes of a register take one
 one-step : (w : PlainWork) (lane : ℕ) → is_tile w ≡ false → lane_step w * lane ≡ 0
-one-step (kernel trees) lane whole = omega arith
-one-step (rows root size) lane whole = omega arith
-one-step (horner root size) lane whole = omega arith
 one-step (tile lanes) lane whole = absurd (cc)
-one-step (copy size) lane whole = omega arith
+one-step _ lane whole = omega arith
 
 first-sound : (sums : List Sum) → AreSound (all_first sums)
 first-sound [] = tt
@@ -132,10 +122,7 @@ module _ (v : ℕ) where
 
     alike-closed : (z : PlainNest) (w : PlainWork) → LoadsAlike z w → LoadsAlike (closed_nest z) w
     alike-closed z (kernel trees) alike = alike
-    alike-closed z (rows root size) alike = alike
-    alike-closed z (horner root size) alike = alike
-    alike-closed z (tile lanes) alike = alike
-    alike-closed z (copy size) alike = alike
+    alike-closed z _ alike = alike
 
     closed-ready : (z : PlainNest) → IsReadyNest h z → IsReadyNest h (closed_nest z)
     closed-ready z is =

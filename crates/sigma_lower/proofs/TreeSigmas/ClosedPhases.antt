@@ -1,43 +1,28 @@
 -- The phases of a whole: those of its layout, the last loop of which takes the closing diagonal.
-use Rattle.std.proofs.Common.{◌≡◌, ℕ, List, [], ◌∷◌, ◌++◌, length, refl, sym, ap, ap₂, ◌∙◌, arith, subst}
-use Rattle.std.proofs.Common.{Option, None, Some}
-use Rattle.std.specs.Prelude.{All, map, reverse}
-use Rattle.std.specs.Option.{option_map}
-use Rattle.std.proofs.lemmas.List.{reverse-append, reverse-reverse}
-use Rattle.std.proofs.lemmas.List.Elements.{All-nil, All-cons}
-use Rattle.operators.specs.declared.target.Target.{Target}
-use Rattle.perm_algebra.specs.Affine.{Sum}
-use Rattle.sigma_spl.specs.Lists.{LastIs, on_last}
-use Rattle.sigma_spl.specs.Loops.{PlainLoop, limits_in, loops_in, scaled_last, AreLimitedLoops, HasLoop, IsLimitedLoop}
-use Rattle.sigma_spl.specs.Loops.{IsOrdered}
-use Rattle.sigma_spl.specs.Merge.{all_simplified, items_out, most, place_sum}
-use Rattle.sigma_spl.specs.Nest.{repeated}
-use Rattle.sigma_spl.specs.Term as terms
-use Rattle.sigma_spl.specs.Work.{work_size}
-use Rattle.smp_rewrite.specs.Fits.{CanShareLayout}
-use Rattle.smp_rewrite.specs.LayoutSteps.Layout.{Layout, IsGoodLayout}
-use Rattle.sigma_lower.specs.Machine.{IsMachine}
-use Rattle.sigma_lower.specs.Merged.{AllHaveLoops, close_last, closed_phases, closing_term}
-use Rattle.sigma_lower.specs.Order.{AllOrdered}
-use Rattle.sigma_lower.specs.Shared.{phase_term}
-use Rattle.sigma_lower.specs.TreeLoops.Limits.{AreLimitedPhases}
-use Rattle.sigma_lower.specs.TreeLoops.Merge.{PlainPass, passes_of_terms}
-use Rattle.sigma_lower.specs.TreeLoops.Merge as passes
-use Rattle.sigma_lower.specs.TreeLoops.Nests.{loop_of, taken_of}
-use Rattle.sigma_lower.specs.TreeLoops.Placed.{AllLimited, AreCounts, Fits, IsLimitedPass}
-use Rattle.sigma_lower.specs.TreeTerms.Term.{PlainTerm}
+use Rattle.sigma_lower.proofs.Words.{◌≡◌, ℕ, List, [], ◌∷◌, ◌++◌, length, refl, sym, ap, ap₂, ◌∙◌, arith, subst, Option}
+use Rattle.sigma_lower.proofs.Words.{None, Some, All, map, reverse, option_map, reverse-append, reverse-reverse}
+use Rattle.sigma_lower.proofs.Words.{All-nil, All-cons, Target, Sum, LastIs, on_last, PlainLoop, limits_in, loops_in}
+use Rattle.sigma_lower.proofs.Words.{scaled_last, AreLimitedLoops, HasLoop, IsLimitedLoop, IsOrdered, items_out, most}
+use Rattle.sigma_lower.proofs.Words.{work_size, CanShareLayout, Layout, IsGoodLayout, IsMachine, AllHaveLoops}
+use Rattle.sigma_lower.proofs.Words.{close_last, closed_phases, AllOrdered, phase_term, PlainPass, passes_of_terms}
+use Rattle.sigma_lower.proofs.Words.{loop_of, taken_of, AreCounts, Fits, IsLimitedPass, PlainTerm, all_simplified}
+use Rattle.sigma_lower.proofs.Words.{place_sum, repeated, closing_term, AreLimitedPhases}
+use Rattle.sigma_lower.proofs.Closing.{close-is}
 use Rattle.sigma_lower.proofs.TreeLoops.LoopItems.{AllName, names-of, pass-counts}
 use Rattle.sigma_lower.proofs.TreeLoops.LoopLimits.{tree_loops}
 use Rattle.sigma_lower.proofs.TreeLoops.LoopNests.{loops_listed}
-use Rattle.sigma_lower.proofs.TreeLoops.Shaped.{AreShaped, IsShaped, IsShapedWork}
+use Rattle.sigma_lower.proofs.TreeLoops.Shaped.{IsShaped, IsShapedWork}
 use Rattle.sigma_lower.proofs.TreeLoops.Staying.{carried-end}
+use Rattle.sigma_lower.proofs.TreeLoops.RootPlaces.{HaveGoodPlaces}
 use Rattle.sigma_lower.proofs.TreeLoops.TreePlaces.{tree_good_places}
 use Rattle.sigma_lower.proofs.TreeSigmas.ClosedLoops.{HasClosing, TakesClosing, can-scale, closed_loop, has-loop}
 use Rattle.sigma_lower.proofs.TreeSigmas.ClosedLoops.{limited-last, scaled-in-order}
 use Rattle.sigma_lower.proofs.TreeSigmas.ClosedPlaces.{AllAlone, closing_path}
 use Rattle.sigma_lower.proofs.TreeSigmas.Endings.{IsEnding, layout_ends}
-use Rattle.sigma_lower.proofs.TreeSigmas.Lasts.{HasItem}
+use Rattle.sigma_lower.proofs.TreeSigmas.Lasts.{HasItem, all-last}
 use Rattle.sigma_lower.proofs.TreeLoops.Moved.{fits-one}
+use Rattle.sigma_spl.specs.Term as terms
+use Rattle.sigma_lower.specs.TreeLoops.Merge as passes
 
 -- ---- the place of the only word
 
@@ -79,19 +64,18 @@ module _ (h : Target) where
 
   -- ---- the last pass
 
-  takes-last : (ps : List PlainPass) → IsMachine h → LastIs IsEnding ps → AreShaped (IsShapedWork h.modulus) size ps →
-      AllLimited h ps → AreLimitedLoops (most 64) size (map loop_of ps) → LastIs (TakesClosing size) (map loop_of ps)
-  takes-last [] machine ends shapes limited within = absurd ends
-  takes-last (p ∷ []) machine ends shapes limited within =
-      takes-closing p machine shapes.0 limited.0 ends within.0
-  takes-last (p ∷ q ∷ ps) machine ends shapes limited within =
-      takes-last (q ∷ ps) machine ends shapes.1 limited.1 within.1
+  takes-last : (ps : List PlainPass) → IsMachine h → LastIs IsEnding ps →
+      HaveGoodPlaces h (IsShapedWork h.modulus) ps → AreLimitedLoops (most 64) size (map loop_of ps) →
+      LastIs (TakesClosing size) (map loop_of ps)
+  takes-last [] machine ends places within = absurd ends
+  takes-last (p ∷ []) machine ends places within =
+      takes-closing p machine places.0.shaped places.0.limited ends within.0
+  takes-last (p ∷ q ∷ ps) machine ends places within = takes-last (q ∷ ps) machine ends places.1 within.1
 
   pub layout-takes : (l : Layout) → IsMachine h → CanShareLayout h l → IsGoodLayout h.modulus l →
       LastIs (TakesClosing size) (map loop_of (passes.merged_of h l))
   layout-takes l machine shares good =
-      let places = tree_good_places h l shares good in
-      takes-last (passes.merged_of h l) machine (layout_ends h l shares good) places.shaped places.limited
+      takes-last (passes.merged_of h l) machine (layout_ends h l shares good) (tree_good_places h l shares good)
       (tree_loops 64 h l (omega arith) machine shares good)
 
   -- ---- the loops of phases
@@ -152,25 +136,14 @@ module _ (h : Target) where
     pub have : AllHaveLoops h phases
     pub limited : AreLimitedPhases h phases
 
-  first-phase : (ts : List PlainTerm) (more : List (List PlainTerm)) → ArePhases (ts ∷ more) → IsPhase (phase_term ts)
-  first-phase ts more are =
-      record {
-        ordered = record {
-          in_order = are.ordered.0.in_order;
-          none_waits = are.ordered.0.none_waits;
-          some = are.have.0;
-        };
-        limited = are.limited.0;
-      }
-
-  rest-phases : (ts : List PlainTerm) (more : List (List PlainTerm)) → ArePhases (ts ∷ more) → ArePhases more
-  rest-phases ts more are = record { ordered = are.ordered.1; have = are.have.1; limited = are.limited.1 }
-
-  open-phases : (phases : List (List PlainTerm)) → ArePhases phases → All IsPhase (map phase_term phases)
-  open-phases [] are = All-nil IsPhase
-  open-phases (ts ∷ more) are =
-      All-cons IsPhase (phase_term ts) (map phase_term more) (first-phase ts more are)
-      (open-phases more (rest-phases ts more are))
+  open-phases : (phases : List (List PlainTerm)) → AllOrdered h phases → AllHaveLoops h phases →
+      AreLimitedPhases h phases → All IsPhase (map phase_term phases)
+  open-phases [] ordered have limited = All-nil IsPhase
+  open-phases (ts ∷ more) ordered have limited =
+      let order : IsOrdered (phase_term ts) =
+      record { in_order = ordered.0.in_order; none_waits = ordered.0.none_waits; some = have.0 } in
+      All-cons IsPhase (phase_term ts) (map phase_term more) (record { ordered = order; limited = limited.0 })
+      (open-phases more ordered.1 have.1 limited.1)
 
   front-closing : (ps qs : List PlainLoop) → HasClosing size ps → HasClosing size (ps ++ qs)
   front-closing [] qs takes = absurd takes
@@ -196,21 +169,19 @@ module _ (h : Target) where
           limited = limited-last size v (loops_in t) takes is.limited;
         }
 
-    all-closed : (phases : List (List PlainTerm)) → ArePhases phases →
-        LastIs (LastIs (TakesClosing size)) (loops_by phases) →
-        All IsPhase (close_last size v (map phase_term phases))
-    all-closed [] are takes = absurd takes
-    all-closed (ts ∷ []) are takes =
-        All-cons IsPhase (terms.product (phase_term ts) (closing_term size v)) []
-        (closed-phase (phase_term ts) (first-phase ts [] are)
-        (subst (HasClosing size) (sym (loops_listed ts)) (last-closing (map loop_of (passes_of_terms ts)) takes)))
-        (All-nil IsPhase)
-    all-closed (ts ∷ us ∷ more) are takes =
-        All-cons IsPhase (phase_term ts) (close_last size v (map phase_term (us ∷ more)))
-        (first-phase ts (us ∷ more) are) (all-closed (us ∷ more) (rest-phases ts (us ∷ more) are) takes)
+  last-takes : (phases : List (List PlainTerm)) → LastIs (LastIs (TakesClosing size)) (loops_by phases) →
+      LastIs (λ t. HasClosing size (loops_in t)) (map phase_term phases)
+  last-takes [] takes = absurd takes
+  last-takes (ts ∷ []) takes =
+      subst (HasClosing size) (sym (loops_listed ts)) (last-closing (map loop_of (passes_of_terms ts)) takes)
+  last-takes (ts ∷ us ∷ more) takes = last-takes (us ∷ more) takes
 
   pub whole-phases : (o : Option ℕ) (phases : List (List PlainTerm)) → ArePhases phases →
       LastIs (LastIs (TakesClosing size)) (loops_by phases) →
       All IsPhase (closed_phases size o (map phase_term phases))
-  whole-phases None phases are takes = open-phases phases are
-  whole-phases (Some v) phases are takes = all-closed v phases are takes
+  whole-phases None phases are takes = open-phases phases are.ordered are.have are.limited
+  whole-phases (Some v) phases are takes =
+      let us = map phase_term phases in
+      subst (All IsPhase) (sym (close-is size v us))
+      (all-last IsPhase (λ t. HasClosing size (loops_in t)) (λ t. terms.product t (closing_term size v)) (closed-phase v) us
+      (open-phases phases are.ordered are.have are.limited) (last-takes phases takes))

@@ -1,21 +1,13 @@
 -- A diagonal of one entry over all words takes every place to its first factor.
-use Rattle.std.proofs.Common.{◌≡◌, ℕ, ◌%◌, ◌<◌, Bool, true, false, List, [], ◌∷◌, ◌++◌, refl, sym, ap, ap₂, ◌∙◌, arith}
-use Rattle.std.proofs.Common.{subst, mod-lt, if◌then◌else◌}
-use Rattle.std.specs.Prelude.{map, ◌==◌, ◌&&◌, nat_lt}
-use Rattle.std.specs.List.{list_all}
-use Rattle.std.proofs.lemmas.Bool.Decides.{nat_tests}
-use Rattle.std.proofs.lemmas.Bool.{and_from}
-use Rattle.index_fn.specs.Mapping.{Mapping}
-use Rattle.sigma_spl.specs.Merge.{all_simplified, carries_sum, is_limited}
-use Rattle.sigma_spl.specs.Nest.{inner_of}
+use Rattle.sigma_lower.proofs.Words.{◌≡◌, ℕ, ◌%◌, ◌<◌, Bool, true, false, List, [], ◌∷◌, ◌++◌, refl, sym, ap, ap₂, ◌∙◌}
+use Rattle.sigma_lower.proofs.Words.{arith, subst, mod-lt, if◌then◌else◌, map, ◌==◌, ◌&&◌, nat_tests, and_from, Mapping}
+use Rattle.sigma_lower.proofs.Words.{Sum, constant, variable, remainder, quotient, Divided, joined, simplified, top}
+use Rattle.sigma_lower.proofs.Words.{within, Blocks, Path, all_simplified, inner_of, nat_lt, list_all, carries_sum}
+use Rattle.sigma_lower.proofs.Words.{is_limited}
 use Rattle.sigma_spl.proofs.Carried.{carried-next, carried-room}
 use Rattle.sigma_spl.proofs.Walk.{and-left, and-right}
-use Rattle.perm_algebra.specs.Affine.{Sum, constant, variable, remainder, quotient, Divided, divided, head, joined}
-use Rattle.perm_algebra.specs.Affine.{rest_of, simplified, top}
+use Rattle.perm_algebra.specs.Affine.{divided, head, rest_of}
 use Rattle.perm_algebra.specs.Room.{can_join, can_scale, has_room, has_top}
-use Rattle.smp_rewrite.specs.Smp.{within}
-use Rattle.operators.specs.declared.tensor_paths.Tensor.TheVariants.{Blocks}
-use Rattle.operators.specs.TensorPaths.Path.{Path}
 
 -- where the diagonal stands, and the function that finds its entry
 abbrev pub closing_path : ℕ → Path

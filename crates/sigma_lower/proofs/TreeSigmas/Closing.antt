@@ -1,27 +1,24 @@
 -- Loops of which the last one takes the closing diagonal: who owns their lines, what they count, and that they are ready.
-use Rattle.std.proofs.Common.{◌≡◌, ℕ, ◌+◌, ◌*◌, ◌<◌, List, [], ◌∷◌, refl, sym, ap, ◌∙◌, arith, subst, Option, None}
-use Rattle.std.proofs.Common.{Some}
-use Rattle.std.specs.Prelude.{All, length, map}
-use Rattle.std.proofs.lemmas.List.Elements.{All-head, All-tail}
-use Rattle.operators.specs.declared.target.Target.{Target}
-use Rattle.operators.specs.TensorPaths.Path.{count_of}
-use Rattle.sigma_spl.specs.Counts.{copies_in, multiplier_cost}
-use Rattle.sigma_spl.specs.Lists.{LastIs, on_last}
-use Rattle.sigma_spl.specs.Loops.{PlainLoop, PlainTaken, multiplier_of, nest_of, one_nest}
-use Rattle.sigma_spl.specs.Nest.{PlainNest, load_place, store_place}
-use Rattle.sigma_spl.specs.Shared.Costs.{pass_cost, pass_loads, work_cost}
-use Rattle.sigma_spl.specs.Shared.Owners.{AllOwn, AllShared, ArePhasesShared, FirstOwns}
-use Rattle.sigma_spl.specs.Shared.Running.{IsCopyOf, IsLoadedBy, IsStoredBy}
-use Rattle.sigma_spl.specs.Trees.{IsReadyLoop}
-use Rattle.sigma_spl.specs.Work.{work_size}
+use Rattle.sigma_lower.proofs.Words.{◌≡◌, ℕ, ◌+◌, ◌*◌, List, [], ◌∷◌, refl, sym, ap, ◌∙◌, arith, subst, Option, None}
+use Rattle.sigma_lower.proofs.Words.{Some, All, length, map, All-head, All-tail, Target, count_of, copies_in}
+use Rattle.sigma_lower.proofs.Words.{multiplier_cost, LastIs, on_last, PlainLoop, PlainTaken, multiplier_of, one_nest}
+use Rattle.sigma_lower.proofs.Words.{PlainNest, pass_cost, pass_loads, work_cost, IsReadyLoop, work_size, in_order}
+use Rattle.sigma_lower.proofs.Words.{PlainPass, loop_of, option_map, taken_of}
 use Rattle.smp_rewrite.specs.LayoutSteps.Whole.{IsGoodFactor}
-use Rattle.sigma_lower.specs.TreeLoops.Merge.{in_order}
 use Rattle.sigma_lower.proofs.TreeSigmas.Bounds.{IsBounded}
 use Rattle.sigma_lower.proofs.TreeSigmas.ClosedCounts.{more_by, more_last}
 use Rattle.sigma_lower.proofs.TreeSigmas.ClosedLoops.{TakesClosing, closed_loop, ready-closed}
 use Rattle.sigma_lower.proofs.TreeSigmas.ClosedPhases.{closing_loops}
 use Rattle.sigma_lower.proofs.TreeSigmas.Lasts.{HasItem, all-last, last-order, length-last, order-last}
-use Rattle.sigma_lower.proofs.TreeSigmas.Owned.{only-nest}
+use Rattle.sigma_lower.proofs.TreeSigmas.Owned.{AllAreLoops, AreLoops}
+
+same-loops : (ps : List PlainPass) → AreLoops ps (map loop_of ps)
+same-loops [] = tt
+same-loops (p ∷ ps) = ((option_map taken_of p.diagonal, refl), same-loops ps)
+
+same-phases : (phases : List (List PlainPass)) → AllAreLoops phases (map (map loop_of) phases)
+same-phases [] = tt
+same-phases (ps ∷ more) = (same-loops ps, same-phases more)
 
 module _ (h : Target) (v : ℕ) where
   abbrev closed : PlainLoop → PlainLoop
@@ -30,87 +27,18 @@ module _ (h : Target) (v : ℕ) where
   abbrev nests : List PlainLoop → List (List PlainNest)
   nests ps = map one_nest ps
 
-  -- ---- whose words they are
+  -- ---- they are loops of the passes
 
-  loaded-before : (p : PlainLoop) (q w : ℕ) → IsLoadedBy h (one_nest (closed p)) q w → IsLoadedBy h (one_nest p) q w
-  loaded-before p q w there =
-      subst
-      (λ (y : PlainNest).
-      IsCopyOf h y q there.values → there.item < work_size y.work →
-      load_place y.work y.gathers there.values there.item ≡ w → IsLoadedBy h (one_nest p) q w)
-      (only-nest (nest_of (closed p)) there.nest there.one)
-      (λ copy below place.
-      record {
-        nest = nest_of p;
-        one = (0, omega arith, refl);
-        values = there.values;
-        item = there.item;
-        copy = record { in_range = copy.in_range; processor = copy.processor };
-        below = below;
-        there = place;
-      })
-      there.copy there.below there.there
+  last-loops : (ps : List PlainPass) → AreLoops ps (on_last closed (map loop_of ps))
+  last-loops [] = tt
+  last-loops (p ∷ []) = ((Some _, refl), tt)
+  last-loops (p ∷ q ∷ ps) = ((option_map taken_of p.diagonal, refl), last-loops (q ∷ ps))
 
-  stored-before : (p : PlainLoop) (q w : ℕ) → IsStoredBy h (one_nest (closed p)) q w → IsStoredBy h (one_nest p) q w
-  stored-before p q w there =
-      subst
-      (λ (y : PlainNest).
-      IsCopyOf h y q there.values → there.item < work_size y.work →
-      store_place y.work y.scatters there.values there.item ≡ w → IsStoredBy h (one_nest p) q w)
-      (only-nest (nest_of (closed p)) there.nest there.one)
-      (λ copy below place.
-      record {
-        nest = nest_of p;
-        one = (0, omega arith, refl);
-        values = there.values;
-        item = there.item;
-        copy = record { in_range = copy.in_range; processor = copy.processor };
-        below = below;
-        there = place;
-      })
-      there.copy there.below there.there
-
-  own-last : (owner : ℕ → ℕ) (ps : List PlainLoop) → AllOwn h owner (nests ps) →
-      AllOwn h owner (nests (on_last closed ps))
-  own-last owner [] own = tt
-  own-last owner (p ∷ []) own = (
-    λ q w low there. own.0 q w low (loaded-before p q w there),
-    λ q w low there. own.1 q w low (stored-before p q w there),
-    tt,
-  )
-  own-last owner (p ∷ r ∷ ps) own = (own.0, own.1, own-last owner (r ∷ ps) own.2)
-
-  first-owns : (owner : ℕ → ℕ) (ps : List PlainLoop) → FirstOwns h owner (nests ps) →
-      FirstOwns h owner (nests (on_last closed ps))
-  first-owns owner [] own = tt
-  first-owns owner (p ∷ []) own = (λ q w low there. own.0 q w low (stored-before p q w there), tt)
-  first-owns owner (p ∷ r ∷ ps) own = (own.0, own-last owner (r ∷ ps) own.1)
-
-  shared-last : (phases : List (List PlainLoop)) → AllShared h (map nests phases) →
-      AllShared h (map nests (on_last (on_last closed) phases))
-  shared-last [] shared = tt
-  shared-last (ps ∷ []) shared = (
-    record {
-      owner = shared.0.owner;
-      is_owner = shared.0.is_owner;
-      owns = own-last shared.0.owner ps shared.0.owns;
-    },
-    tt,
-  )
-  shared-last (ps ∷ qs ∷ phases) shared = (shared.0, shared-last (qs ∷ phases) shared.1)
-
-  shared-closed : (phases : List (List PlainLoop)) → ArePhasesShared h (map nests phases) →
-      ArePhasesShared h (map nests (on_last (on_last closed) phases))
-  shared-closed [] shared = tt
-  shared-closed (ps ∷ []) shared = (
-    record {
-      owner = shared.0.owner;
-      is_owner = shared.0.is_owner;
-      owns = first-owns shared.0.owner ps shared.0.owns;
-    },
-    tt,
-  )
-  shared-closed (ps ∷ qs ∷ phases) shared = (shared.0, shared-last (qs ∷ phases) shared.1)
+  last-phases : (phases : List (List PlainPass)) →
+      AllAreLoops phases (on_last (on_last closed) (map (map loop_of) phases))
+  last-phases [] = tt
+  last-phases (ps ∷ []) = (last-loops ps, tt)
+  last-phases (ps ∷ qs ∷ more) = (same-loops ps, last-phases (qs ∷ more))
 
   -- ---- what they count
 
@@ -148,11 +76,15 @@ module _ (h : Target) (v : ℕ) where
       (costs-last weight (r ∷ ps) (All-tail (IsBounded h) p (r ∷ ps) all) takes)
 
   loads-last : (ps : List PlainLoop) → map pass_loads (nests (on_last closed ps)) ≡ map pass_loads (nests ps)
-  loads-last [] = refl
-  loads-last (p ∷ []) = refl
   loads-last (p ∷ r ∷ ps) = ap (λ ns. pass_loads (one_nest p) ∷ ns) (loads-last (r ∷ ps))
+  loads-last _ = refl
 
 -- ---- with the factor of a whole, if it has one
+
+pub closing-are : (h : Target) (o : Option ℕ) (phases : List (List PlainPass)) →
+    AllAreLoops phases (closing_loops h o (map (map loop_of) phases))
+closing-are h None phases = same-phases phases
+closing-are h (Some v) phases = last-phases h v phases
 
 module _ (h : Target) (phases : List (List PlainLoop)) (each : All HasItem phases)
     (takes : LastIs (TakesClosing h.size) (in_order phases)) where
@@ -169,11 +101,6 @@ module _ (h : Target) (phases : List (List PlainLoop)) (each : All HasItem phase
       all-last (IsReadyLoop h) (TakesClosing h.size) (closed_loop h.size v)
       (λ p is this. ready-closed h.size v h good p is this) ps are last)
       phases ready takes-phases
-
-  pub whole-shared : (o : Option ℕ) → ArePhasesShared h (map (map one_nest) phases) →
-      ArePhasesShared h (map (map one_nest) (closing_loops h o phases))
-  whole-shared None shared = shared
-  whole-shared (Some v) shared = shared-closed h v phases shared
 
   module _ (bounded : All (IsBounded h) (in_order phases)) where
     pub whole-bounded : (o : Option ℕ) → All (IsBounded h) (in_order (closing_loops h o phases))

@@ -1,22 +1,12 @@
 -- The loops of a layout have the operations and loads that it counts.
-use Rattle.std.proofs.Common.{◌≡◌, ℕ, ◌+◌, ◌*◌, Bool, true, false, List, [], ◌∷◌, map, refl, sym, ap, ap₂, ◌∙◌, arith}
-use Rattle.std.proofs.Common.{Option, Some, None, if◌then◌else◌}
-use Rattle.std.specs.Option.{option_map}
-use Rattle.index_fn.specs.Mapping.{Mapping}
-use Rattle.sigma_lower.specs.TreeLoops.Laws.{Counted, counted, counted_as, counted_cost, counted_loads, has_diagonal}
-use Rattle.sigma_lower.specs.TreeLoops.Laws.{whole_passes}
-use Rattle.sigma_lower.specs.TreeLoops.Merge.{PlainDiagonal, PlainPass, merged_of}
-use Rattle.sigma_lower.specs.TreeLoops.Nests.{loop_of, taken_of}
+use Rattle.sigma_lower.proofs.Words.{◌≡◌, ℕ, ◌+◌, ◌*◌, Bool, true, false, List, [], ◌∷◌, map, refl, sym, ap, ap₂, ◌∙◌}
+use Rattle.sigma_lower.proofs.Words.{arith, Option, Some, None, if◌then◌else◌, option_map, Mapping, Counted, counted}
+use Rattle.sigma_lower.proofs.Words.{counted_as, has_diagonal, whole_passes, PlainDiagonal, PlainPass, merged_of}
+use Rattle.sigma_lower.proofs.Words.{loop_of, taken_of, pass_cost, pass_loads, work_cost, copies_in, multiplier_cost}
+use Rattle.sigma_lower.proofs.Words.{PlainLoop, multiplier_of, one_nest, PlainNest, PlainWork, kernel, rows, horner}
+use Rattle.sigma_lower.proofs.Words.{tile, copy, work_size, Layout, Target, Path, copies_of, count_of}
+use Rattle.sigma_lower.proofs.Words.{size_under-copies, counted_cost, counted_loads}
 use Rattle.sigma_lower.proofs.TreeLoops.Counts.{merge_counts}
-use Rattle.sigma_spl.specs.Shared.Costs.{pass_cost, pass_loads, work_cost}
-use Rattle.sigma_spl.specs.Counts.{copies_in, multiplier_cost}
-use Rattle.sigma_spl.specs.Loops.{PlainLoop, multiplier_of, one_nest}
-use Rattle.sigma_spl.specs.Nest.{PlainNest}
-use Rattle.sigma_spl.specs.Work.{PlainWork, kernel, rows, horner, tile, copy, work_size}
-use Rattle.smp_rewrite.specs.LayoutSteps.Layout.{Layout}
-use Rattle.operators.specs.declared.target.Target.{Target}
-use Rattle.operators.specs.TensorPaths.Path.{Path, copies_of, count_of}
-use Rattle.operators.proofs.TensorPaths.Under.{size_under-copies}
 use Rattle.sigma_lower.proofs.TreeSigmas.Bounds.{copies-are}
 use Rattle.sigma_lower.proofs.TreeSigmas.Hosted.{IsHosted}
 use Rattle.sigma_lower.proofs.TreeSigmas.Known.{AllKnown, IsKnown, layout-known}

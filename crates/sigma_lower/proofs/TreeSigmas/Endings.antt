@@ -1,17 +1,10 @@
 -- The last pass of a layout has no diagonal, and its work is no tile.
-use Rattle.std.proofs.Common.{◌≡◌, ℕ, ◌*◌, Bool, true, false, List, [], ◌∷◌, ◌++◌, map, refl, sym, subst, Option, Some}
-use Rattle.std.proofs.Common.{None, if◌then◌else◌, nat_le}
-use Rattle.sigma_lower.specs.TreeLoops.Laws.{Counted, works, tiles, counted, counted_as, has_diagonal, passes_of}
-use Rattle.sigma_lower.specs.TreeLoops.Laws.{tiled_passes, twiddle_by, whole_passes}
-use Rattle.sigma_lower.specs.TreeLoops.Merge.{PlainDiagonal, PlainPass, merged_of}
+use Rattle.sigma_lower.proofs.Words.{◌≡◌, ℕ, ◌*◌, Bool, true, false, List, [], ◌∷◌, ◌++◌, map, refl, sym, subst, Option}
+use Rattle.sigma_lower.proofs.Words.{Some, None, if◌then◌else◌, nat_le, Counted, works, tiles, counted, counted_as}
+use Rattle.sigma_lower.proofs.Words.{has_diagonal, passes_of, tiled_passes, twiddle_by, whole_passes, PlainDiagonal}
+use Rattle.sigma_lower.proofs.Words.{PlainPass, merged_of, LastIs, is_tile, PlainWork, tile, CanShareLayout, Layout}
+use Rattle.sigma_lower.proofs.Words.{work, by, layout_size, IsGoodLayout, Target, Gt, Ct}
 use Rattle.sigma_lower.proofs.TreeLoops.Counts.{merge_counts}
-use Rattle.sigma_spl.specs.Lists.{LastIs}
-use Rattle.sigma_spl.specs.Merge.{is_tile}
-use Rattle.sigma_spl.specs.Work.{PlainWork, kernel, rows, horner, tile, copy}
-use Rattle.smp_rewrite.specs.Fits.{CanShareLayout}
-use Rattle.smp_rewrite.specs.LayoutSteps.Layout.{Layout, work, by, layout_size, IsGoodLayout}
-use Rattle.operators.specs.declared.target.Target.{Target}
-use Rattle.tree_model.specs.declared.tree.Rule.TheVariants.{Gt, Ct, Split, Dim}
 
 -- a pass that can take a diagonal of one entry
 pub record IsEnding (p : PlainPass) : Type 0 where
@@ -49,10 +42,7 @@ tiled-plain : (l : Layout) → LastIs EndsPlain (tiled_passes l)
 tiled-plain (work w) = passes-plain 1 (work w)
 tiled-plain (by Gt root a b) = passes-plain 1 (by Gt root a b)
 tiled-plain (by Ct root a b) = spread-plain a b true
-tiled-plain (by Split root a b) =
-    plain-behind (tiles false) (passes_of (layout_size a) b ++ (tiles false ∷ passes_of (layout_size b) a))
-    (spread-plain a b false)
-tiled-plain (by Dim root a b) =
+tiled-plain (by _ root a b) =
     plain-behind (tiles false) (passes_of (layout_size a) b ++ (tiles false ∷ passes_of (layout_size b) a))
     (spread-plain a b false)
 
@@ -68,18 +58,12 @@ whole-plain lanes l = by-lanes (nat_le lanes 1)
 no-diagonal : (k : ℕ) (w : PlainWork) (o : Option PlainDiagonal) →
     EndsPlain (counted_as k w (has_diagonal o)) → o ≡ None
 no-diagonal k w None h = refl
-no-diagonal k (kernel trees) (Some d) h = absurd (cc)
-no-diagonal k (rows root size) (Some d) h = absurd (cc)
-no-diagonal k (horner root size) (Some d) h = absurd (cc)
 no-diagonal k (tile v) (Some d) h = absurd h
-no-diagonal k (copy size) (Some d) h = absurd (cc)
+no-diagonal k _ (Some d) h = absurd (cc)
 
 no-tile : (k : ℕ) (w : PlainWork) (b : Bool) → EndsPlain (counted_as k w b) → is_tile w ≡ false
-no-tile k (kernel trees) b h = refl
-no-tile k (rows root size) b h = refl
-no-tile k (horner root size) b h = refl
 no-tile k (tile v) b h = absurd h
-no-tile k (copy size) b h = refl
+no-tile k _ b h = refl
 
 last-ends : (ps : List PlainPass) → LastIs EndsPlain (map counted ps) → LastIs IsEnding ps
 last-ends [] plain = absurd plain

@@ -1,17 +1,10 @@
 -- A layout has at least one pass, and few.
-use Rattle.std.proofs.Common.{◌≡◌, ℕ, ◌+◌, ◌*◌, ◌^◌, ◌≤◌, Bool, true, false, List, [], ◌∷◌, ◌++◌, length, map, suc}
-use Rattle.std.proofs.Common.{refl, sym, ap, ap₂, ◌∙◌, inl, inr, arith, subst, nat_le, length-append}
-use Rattle.std.proofs.lemmas.Bool.{cases_lt}
-use Rattle.std.proofs.lemmas.List.{length-map}
-use Rattle.std.proofs.lemmas.Nat.{mul-le, pow-add}
-use Rattle.std.proofs.Math.Pow.{pow_mono}
-use Rattle.sigma_spl.proofs.Walk.{chosen}
-use Rattle.sigma_lower.specs.TreeLoops.Laws.{Counted, tiles, counted, passes_of, tiled_passes, twiddle_by, twiddle_last}
-use Rattle.sigma_lower.specs.TreeLoops.Laws.{whole_passes}
-use Rattle.sigma_lower.specs.TreeLoops.Merge.{PlainPass}
-use Rattle.smp_rewrite.specs.LayoutSteps.Layout.{Layout, work, by, layout_size, IsGoodLayout}
-use Rattle.tree_model.specs.declared.tree.Rule.{Rule}
-use Rattle.tree_model.specs.declared.tree.Rule.TheVariants.{Gt, Ct, Split, Dim}
+use Rattle.sigma_lower.proofs.Words.{◌≡◌, ℕ, ◌+◌, ◌*◌, ◌^◌, ◌≤◌, Bool, true, false, List, ◌∷◌, ◌++◌, length, map, suc}
+use Rattle.sigma_lower.proofs.Words.{refl, sym, ap, ap₂, ◌∙◌, arith, subst, nat_le, length-map, mul-le, chosen, Counted}
+use Rattle.sigma_lower.proofs.Words.{tiles, counted, passes_of, tiled_passes, twiddle_by, twiddle_last, whole_passes}
+use Rattle.sigma_lower.proofs.Words.{PlainPass, Layout, work, by, layout_size, IsGoodLayout, Rule, Gt, Ct}
+use Rattle.sigma_lower.proofs.Words.{length-append, pow-add}
+use Rattle.sigma_lower.proofs.TreeSigmas.Loops.{weight-small}
 
 -- ---- how many passes a layout has
 
@@ -20,15 +13,12 @@ number (work w) = 1
 number (by rule root a b) = number b + number a
 
 length-twiddled : (ps : List Counted) → length (twiddle_last ps) ≡ length ps
-length-twiddled [] = refl
-length-twiddled (p ∷ []) = refl
 length-twiddled (p ∷ q ∷ ps) = ap suc (length-twiddled (q ∷ ps))
+length-twiddled _ = refl
 
 length-by : (rule : Rule) (ps : List Counted) → length (twiddle_by rule ps) ≡ length ps
-length-by Gt ps = refl
 length-by Ct ps = length-twiddled ps
-length-by Split ps = refl
-length-by Dim ps = refl
+length-by _ ps = refl
 
 length-passes : (n : ℕ) (l : Layout) → length (passes_of n l) ≡ number l
 length-passes n (work w) = refl
@@ -54,20 +44,12 @@ number-few m (by rule root a b) h two =
     subst (λ e. 2 ^ e ≤ layout_size a * layout_size b) turned
     (subst (λ n. n ≤ layout_size a * layout_size b) (sym (pow-add 2 x y)) both)
 
--- powers of two up to 1048576
-exponent-small : (k n : ℕ) → 2 ^ k ≤ n → n ≤ 1048576 → k ≤ 20
-exponent-small k n low high =
-    elim (cases_lt 20 k) [
-      | inl large ↦ let great : 2 ^ 21 ≤ 2 ^ k = pow_mono {i = 21} {j = k} (omega arith) in absurd (omega arith)
-      | inr small ↦ small
-    ]
-
 number-small : (m : ℕ) (l : Layout) → IsGoodLayout m l → layout_size l ≤ 1048576 → number l ≤ 20
 number-small m (work w) h high = omega arith
 number-small m (by rule root a b) h high =
     let n = layout_size a * layout_size b in
     let two : 2 * 2 ≤ n = mul-le 2 2 (layout_size a) (layout_size b) h.0.left h.0.right in
-    exponent-small (number b + number a) n (number-few m (by rule root a b) h (omega (arith, two))) high
+    weight-small (number b + number a) (omega (arith, number-few m (by rule root a b) h (omega (arith, two)), high))
 
 -- ---- a layout of at most 1048576 words has at most 22 passes
 
@@ -92,8 +74,7 @@ few-tiled : (l : Layout) → AreFew (number l) (tiled_passes l)
 few-tiled (work w) = few-plain (work w)
 few-tiled (by Gt root a b) = few-plain (by Gt root a b)
 few-tiled (by Ct root a b) = let is = between a b true in record { some = omega (arith, is); few = omega (arith, is) }
-few-tiled (by Split root a b) = let is = between a b false in record { some = omega arith; few = omega (arith, is) }
-few-tiled (by Dim root a b) = let is = between a b false in record { some = omega arith; few = omega (arith, is) }
+few-tiled (by _ root a b) = let is = between a b false in record { some = omega arith; few = omega (arith, is) }
 
 few-whole : (lanes : ℕ) (l : Layout) → AreFew (number l) (whole_passes lanes l)
 few-whole lanes l =

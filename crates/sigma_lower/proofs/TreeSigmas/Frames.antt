@@ -1,20 +1,11 @@
 -- The nest of a pass that processors and lanes share: its counts, its variables, and what they name.
-use Rattle.std.proofs.Common.{◌≡◌, ℕ, ◌<◌, Bool, true, false, List, [], ◌∷◌, ◌++◌, map, refl, sym, ap, ◌∙◌, arith}
-use Rattle.std.proofs.Common.{subst}
-use Rattle.std.specs.Prelude.{◌==◌, if◌then◌else◌}
-use Rattle.sigma_lower.specs.TreeLoops.Merge.{PlainPass}
-use Rattle.sigma_lower.specs.TreeLoops.Nests.{loop_of}
-use Rattle.operators.specs.declared.target.Target.{Target}
-use Rattle.operators.proofs.Lists.{place_below}
-use Rattle.sigma_spl.specs.Shared.Machine.{framed_lanes, if_several, item_of, values_of}
+use Rattle.sigma_lower.proofs.Words.{◌≡◌, ℕ, ◌<◌, Bool, true, false, List, [], ◌∷◌, ◌++◌, map, refl, sym, ap, ◌∙◌}
+use Rattle.sigma_lower.proofs.Words.{arith, subst, ◌==◌, if◌then◌else◌, PlainPass, loop_of, Target, place_below}
+use Rattle.sigma_lower.proofs.Words.{item_of, values_of, nest_of, PlainWork, tile, work_size, IsFramed, within, Tensor}
+use Rattle.sigma_lower.proofs.Words.{Blocks, Columns, Path, count_of, AreInRange, if_several, vectors_of, framed}
+use Rattle.sigma_spl.specs.Shared.Machine.{framed_lanes}
+use Rattle.sigma_lower.specs.TreeLoops.SharedPasses.Shared.{HasLanes}
 use Rattle.sigma_spl.specs.Shared.Running as running
-use Rattle.sigma_spl.specs.Loops.{nest_of}
-use Rattle.sigma_spl.specs.Work.{PlainWork, kernel, rows, horner, tile, copy, vectors_of, work_size}
-use Rattle.sigma_lower.specs.TreeLoops.SharedPasses.Shared.{framed, HasLanes, IsFramed}
-use Rattle.smp_rewrite.specs.Smp.{within}
-use Rattle.operators.specs.declared.tensor_paths.Tensor.{Tensor}
-use Rattle.operators.specs.declared.tensor_paths.Tensor.TheVariants.{Blocks, Columns}
-use Rattle.operators.specs.TensorPaths.Path.{Path, count_of, AreInRange}
 
 -- ---- counts
 
@@ -32,11 +23,8 @@ counts-lanes p v loops =
 
 counts-framed : (c : Target) (w : PlainWork) (loops : Path) →
     map count_of (framed c w loops) ≡ if_several c.procs c.procs ++ (framed_lanes c w ++ map count_of loops)
-counts-framed c (kernel trees) loops = counts-lanes c.procs c.lanes loops
-counts-framed c (rows root size) loops = counts-lanes c.procs c.lanes loops
-counts-framed c (horner root size) loops = counts-lanes c.procs c.lanes loops
 counts-framed c (tile v) loops = counts-pick (c.procs == 1) (Blocks c.procs) loops
-counts-framed c (copy size) loops = counts-lanes c.procs c.lanes loops
+counts-framed c _ loops = counts-lanes c.procs c.lanes loops
 
 pub nest-framed : (c : Target) (p : PlainPass) → IsFramed c p → running.IsFramed c (nest_of (loop_of p))
 nest-framed c p frame = record { loops = map count_of frame.loops; counts = ap (map count_of) frame.path ∙ counts-framed c p.work frame.loops }
@@ -59,11 +47,8 @@ range-lanes c q lane loops vs h k range =
 range-framed : (c : Target) (w : PlainWork) (q lane : ℕ) (loops : Path) (vs : List ℕ) → q < c.procs → lane < c.lanes →
     AreInRange loops vs →
     AreInRange (framed c w loops) (values_of c w q lane vs)
-range-framed c (kernel trees) q lane loops vs h k range = range-lanes c q lane loops vs h k range
-range-framed c (rows root size) q lane loops vs h k range = range-lanes c q lane loops vs h k range
-range-framed c (horner root size) q lane loops vs h k range = range-lanes c q lane loops vs h k range
 range-framed c (tile v) q lane loops vs h k range = range-pick (c.procs == 1) (Blocks c.procs) q loops vs h range
-range-framed c (copy size) q lane loops vs h k range = range-lanes c q lane loops vs h k range
+range-framed c _ q lane loops vs h k range = range-lanes c q lane loops vs h k range
 
 pub range-of : (c : Target) (p : PlainPass) (h : IsFramed c p) (q lane : ℕ) (vs : List ℕ) → q < c.procs →
     lane < c.lanes → AreInRange h.loops vs → AreInRange p.path (values_of c p.work q lane vs)
@@ -93,11 +78,8 @@ parts-lanes c q lane loops vs h =
 parts-of : (c : Target) (w : PlainWork) (q lane : ℕ) (loops : Path) (vs : List ℕ) →
     AreInRange (framed c w loops) (values_of c w q lane vs) →
     AreParts (c.procs == 1) c.procs q loops vs
-parts-of c (kernel trees) q lane loops vs h = parts-lanes c q lane loops vs h
-parts-of c (rows root size) q lane loops vs h = parts-lanes c q lane loops vs h
-parts-of c (horner root size) q lane loops vs h = parts-lanes c q lane loops vs h
 parts-of c (tile v) q lane loops vs h = parts-pick (c.procs == 1) (Blocks c.procs) q loops vs h
-parts-of c (copy size) q lane loops vs h = parts-lanes c q lane loops vs h
+parts-of c _ q lane loops vs h = parts-lanes c q lane loops vs h
 
 -- the processor that stands for q: any for the only one
 abbrev pub named : Target → ℕ → ℕ
@@ -110,11 +92,8 @@ same-proc false q rest = refl
 
 pub values-named : (c : Target) (w : PlainWork) (q lane : ℕ) (vs : List ℕ) →
     values_of c w q lane vs ≡ values_of c w (named c q) lane vs
-values-named c (kernel trees) q lane vs = same-proc (c.procs == 1) q (if_several c.lanes lane ++ vs)
-values-named c (rows root size) q lane vs = same-proc (c.procs == 1) q (if_several c.lanes lane ++ vs)
-values-named c (horner root size) q lane vs = same-proc (c.procs == 1) q (if_several c.lanes lane ++ vs)
 values-named c (tile v) q lane vs = same-proc (c.procs == 1) q vs
-values-named c (copy size) q lane vs = same-proc (c.procs == 1) q (if_several c.lanes lane ++ vs)
+values-named c _ q lane vs = same-proc (c.procs == 1) q (if_several c.lanes lane ++ vs)
 
 -- the values of a copy on a processor and a lane
 pub record IsShare (c : Target) (loops : Path) (q : ℕ) (vs : List ℕ) : Type 0 where
@@ -135,8 +114,5 @@ share-of c p h q lane vs some range =
 -- the items on the lanes of a register are items of the copy
 pub item-below : (c : Target) (w : PlainWork) (k lane : ℕ) → HasLanes c w → k < vectors_of w → lane < c.lanes →
     item_of w k lane < work_size w
-item-below c (kernel trees) k lane has below on = below
-item-below c (rows root size) k lane has below on = below
-item-below c (horner root size) k lane has below on = below
 item-below c (tile v) k lane has below on = place_below k lane v v below (omega (arith, has))
-item-below c (copy size) k lane has below on = below
+item-below c _ k lane has below on = below

@@ -1,36 +1,24 @@
 -- What is known of each pass of a layout.
-use Rattle.std.proofs.Common.{List, [], ◌∷◌, ◌++◌, map, sym, arith, subst, ◌≡◌, ◌<◌}
-use Rattle.std.specs.Prelude.{reverse}
-use Rattle.std.proofs.lemmas.List.{map-append, reverse-append, reverse-reverse}
-use Rattle.sigma_lower.specs.Merged.{AllHaveLoops}
-use Rattle.sigma_lower.specs.Order.{AllOrdered}
-use Rattle.sigma_lower.specs.Shared.{phase_term}
+use Rattle.sigma_lower.proofs.Words.{List, [], ◌∷◌, ◌++◌, map, sym, arith, subst, ◌≡◌, ◌<◌, reverse, map-append}
+use Rattle.sigma_lower.proofs.Words.{reverse-append, reverse-reverse, AllHaveLoops, AllOrdered, phase_term, PlainPass}
+use Rattle.sigma_lower.proofs.Words.{passes_of_terms, in_order, merged_of, loop_of, IsLimitedPass, IsSmallWork}
+use Rattle.sigma_lower.proofs.Words.{PlainLoop, AreLimitedLoops, IsLimitedLoop, loops_in, one_nest, IsOrdered, most}
+use Rattle.sigma_lower.proofs.Words.{AllFramed, IsFramed, PlainTerm, lowered_of, Layout, Target, IsMachine, merge_keeps}
+use Rattle.sigma_lower.proofs.Words.{IsGoodLoop, unbounded, passes_within}
 use Rattle.sigma_lower.proofs.HaveLoops.{phases_have_loops}
 use Rattle.sigma_lower.proofs.Ordered.{trees_ordered}
 use Rattle.sigma_lower.proofs.SharedTrees.{AllEmbed, trees_embed}
-use Rattle.sigma_lower.specs.TreeLoops.Merge.{PlainPass, passes_of_terms, in_order, merged_of}
-use Rattle.sigma_lower.specs.TreeLoops.Nests.{loop_of}
-use Rattle.sigma_lower.specs.TreeLoops.Placed.{AllLimited, IsLimitedPass}
 use Rattle.sigma_lower.proofs.TreeLoops.PassLists.{AllPasses}
-use Rattle.sigma_lower.proofs.TreeLoops.GoodPlaces.{HaveGoodPlaces}
+use Rattle.sigma_lower.proofs.TreeLoops.RootPlaces.{HaveGoodPlaces}
 use Rattle.sigma_lower.proofs.TreeLoops.LoopLimits.{tree_loops}
 use Rattle.sigma_lower.proofs.TreeLoops.LoopNests.{loops_listed}
-use Rattle.sigma_lower.proofs.TreeLoops.Shaped.{AreShaped, IsShaped, IsShapedWork}
+use Rattle.sigma_lower.proofs.TreeLoops.Shaped.{IsShaped, IsShapedWork}
 use Rattle.sigma_lower.proofs.TreeLoops.TreePlaces.{good_places, tree_good_places}
-use Rattle.sigma_spl.specs.Shared.Ready.{IsSmallWork}
 use Rattle.sigma_spl.specs.Good.{AreGoodPasses, IsGoodPass}
-use Rattle.sigma_spl.specs.Loops.{PlainLoop, AreGoodLoops, AreLimitedLoops, IsGoodLoop, IsLimitedLoop, loops_in}
-use Rattle.sigma_spl.specs.Loops.{one_nest, IsOrdered}
-use Rattle.sigma_spl.specs.Merge.{most, unbounded, passes_within}
+use Rattle.sigma_spl.specs.Loops.{AreGoodLoops}
 use Rattle.sigma_spl.proofs.GoodLoops.{loops_are_good}
-use Rattle.sigma_lower.specs.TreeLoops.SharedPasses.Shared.{AllFramed, IsFramed}
 use Rattle.sigma_lower.proofs.TreeLoops.SharedPasses.Framed.{passes_are_framed}
-use Rattle.sigma_lower.specs.TreeTerms.Term.{PlainTerm, lowered_of}
-use Rattle.smp_rewrite.specs.LayoutSteps.Layout.{Layout}
-use Rattle.operators.specs.declared.target.Target.{Target}
 use Rattle.sigma_lower.proofs.TreeSigmas.Hosted.{IsHosted}
-use Rattle.sigma_lower.specs.Machine.{IsMachine}
-use Rattle.sigma_spl.proofs.Keeps.{merge_keeps}
 use Rattle.sigma_spl.proofs.Listed.{merge_listed}
 
 pub record IsKnown (c : Target) (p : PlainPass) : Type 0 where
@@ -94,30 +82,27 @@ good-phases c (ts ∷ more) machine embedded ordered have =
 abbrev pub AllKnown : Target → List PlainPass → Type 0
 AllKnown c ps = AllPasses (IsKnown c) ps
 
-all-known : (c : Target) (ps : List PlainPass) → AllFramed c ps → AreShaped (IsShapedWork c.modulus) c.size ps →
-    AreShaped IsSmallWork c.size ps → AreLimitedLoops (most 64) c.size (map loop_of ps) → AllLimited c ps →
-    AreGood c (map loop_of ps) → AllKnown c ps
-all-known c [] framed shaped small limited placed good = tt
-all-known c (p ∷ ps) framed shaped small limited placed good = (
+all-known : (c : Target) (ps : List PlainPass) → AllFramed c ps → HaveGoodPlaces c (IsShapedWork c.modulus) ps →
+    HaveGoodPlaces c IsSmallWork ps → AreLimitedLoops (most 64) c.size (map loop_of ps) → AreGood c (map loop_of ps) →
+    AllKnown c ps
+all-known c [] framed places small limited good = tt
+all-known c (p ∷ ps) framed places small limited good = (
   record {
     framed = framed.0;
-    shaped = shaped.0;
-    small = small.0.work;
+    shaped = places.0.shaped;
+    small = small.0.shaped.work;
     limited = limited.0;
-    placed = placed.0;
+    placed = places.0.limited;
     loop = good.0.loop;
     good = good.0.pass;
   },
-  all-known c ps framed.1 shaped.1 small.1 limited.1 placed.1 good.1,
+  all-known c ps framed.1 places.1 small.1 limited.1 good.1,
 )
 
 pub layout-known : (c : Target) (l : Layout) → IsHosted c l → AllKnown c (merged_of c l)
 layout-known c l is =
-    let places : HaveGoodPlaces c (IsShapedWork c.modulus) (merged_of c l) = tree_good_places c l is.shares is.good in
-    let small : HaveGoodPlaces c IsSmallWork (merged_of c l) = good_places c IsSmallWork l is.shares is.good is.small
-    tt in
-    all-known c (merged_of c l) (passes_are_framed c l is.shares is.good) places.shaped
-    small.shaped
-    (tree_loops 64 c l (omega arith) is.machine is.shares is.good) places.limited
+    all-known c (merged_of c l) (passes_are_framed c l is.shares is.good) (tree_good_places c l is.shares is.good)
+    (good_places c IsSmallWork l is.shares is.good is.small tt)
+    (tree_loops 64 c l (omega arith) is.machine is.shares is.good)
     (good-phases c (lowered_of c l) is.machine (trees_embed c l is.machine is.shares is.good)
     (trees_ordered c l is.machine is.shares is.good) (phases_have_loops c l is.machine is.shares is.good))

@@ -1,20 +1,15 @@
 -- The last item of lists, exchanged; and lists one after another.
-use Rattle.std.proofs.Common.{◌≡◌, suc, ◌<◌, List, [], ◌∷◌, ◌++◌, length, refl, sym, ap, ◌∙◌, arith, subst, append-nil}
-use Rattle.std.specs.Prelude.{All, map}
-use Rattle.std.proofs.lemmas.List.{map-append}
-use Rattle.std.proofs.lemmas.List.Elements.{All-nil, All-cons, All-head, All-tail}
-use Rattle.sigma_spl.specs.Lists.{LastIs, on_last}
-use Rattle.sigma_lower.specs.TreeLoops.Merge.{in_order}
+use Rattle.sigma_lower.proofs.Words.{◌≡◌, suc, ◌<◌, List, [], ◌∷◌, ◌++◌, length, refl, sym, ap, ◌∙◌, arith, subst}
+use Rattle.sigma_lower.proofs.Words.{append-nil, All, map, map-append, All-nil, All-cons, All-head, All-tail, LastIs}
+use Rattle.sigma_lower.proofs.Words.{on_last, in_order}
 
 pub length-last : {A : Type 0} (f : A → A) (xs : List A) → length (on_last f xs) ≡ length xs
-length-last f [] = refl
-length-last f (x ∷ []) = refl
 length-last f (x ∷ y ∷ xs) = ap suc (length-last f (y ∷ xs))
+length-last f _ = refl
 
 pub last-append : {A : Type 0} (f : A → A) (xs : List A) (z : A) → on_last f (xs ++ z ∷ []) ≡ xs ++ f z ∷ []
-last-append f [] z = refl
-last-append f (x ∷ []) z = refl
 last-append f (x ∷ y ∷ xs) z = ap (λ rest. x ∷ rest) (last-append f (y ∷ xs) z)
+last-append f _ z = refl
 
 -- what holds of all still holds where the last is exchanged
 pub all-last : {A : Type 0} (P Q : A → Type 0) (f : A → A) → ((x : A) → P x → Q x → P (f x)) → (xs : List A) →
@@ -32,16 +27,14 @@ HasItem xs = 0 < length xs
 
 -- the last of two lists is that of the second, where it has one
 is-behind : {A : Type 0} (Q : A → Type 0) (xs ys : List A) → HasItem ys → LastIs Q (xs ++ ys) → LastIs Q ys
-is-behind Q [] ys some last = last
 is-behind Q (x ∷ []) [] some last = absurd (omega (arith, some))
-is-behind Q (x ∷ []) (y ∷ ys) some last = last
 is-behind Q (x ∷ z ∷ xs) ys some last = is-behind Q (z ∷ xs) ys some last
+is-behind Q _ _ some last = last
 
 behind : {A : Type 0} (f : A → A) (xs ys : List A) → HasItem ys → on_last f (xs ++ ys) ≡ xs ++ on_last f ys
 behind f xs [] some = absurd (omega (arith, some))
-behind f [] (y ∷ ys) some = refl
-behind f (x ∷ []) (y ∷ ys) some = refl
 behind f (x ∷ z ∷ xs) (y ∷ ys) some = ap (λ rest. x ∷ rest) (behind f (z ∷ xs) (y ∷ ys) some)
+behind f _ (y ∷ ys) some = refl
 
 some-front : {A : Type 0} (xs ys : List A) → HasItem xs → HasItem (xs ++ ys)
 some-front [] ys some = absurd (omega (arith, some))

@@ -1,41 +1,20 @@
 -- The terms of each tree that a valid request admits are a tree's.
-use Rattle.std.proofs.Common.{◌≡◌, ◌≢◌, ℕ, ◌*◌, ◌^◌, ◌<◌, ◌≤◌, ◌==◌, Bool, true, false, List, [], ◌∷◌, length, suc}
-use Rattle.std.proofs.Common.{refl, sym, ap, ◌∙◌, arith, subst, Option, None, Some, if◌then◌else◌}
-use Rattle.std.specs.Prelude.{All, map}
-use Rattle.std.proofs.lemmas.List.{length-map}
-use Rattle.std.proofs.lemmas.List.Elements.{All-nil, All-cons, All-weaker}
-use Rattle.matrix_meaning.specs.declared.Kind.{Kind}
-use Rattle.matrix_meaning.specs.declared.Kind.TheVariants.{Dft, Wht, Idft}
-use Rattle.matrix_meaning.specs.declared.Request.{Request}
-use Rattle.matrix_meaning.specs.Parts.{forward_of}
-use Rattle.matrix_meaning.specs.Valid.{IsValid}
-use Rattle.operators.specs.declared.target.Target.{Target}
-use Rattle.sigma_spl.specs.Lists.{LastIs}
-use Rattle.sigma_spl.specs.Loops.{AreLimitedLoops, IsOrdered, PlainLoop, loops_in, multiplier_of, nest_of, one_nest}
-use Rattle.sigma_spl.specs.Merge.{most}
-use Rattle.sigma_spl.specs.Nest.{PlainMultiplier, PlainNest}
-use Rattle.sigma_spl.specs.Shared.Costs.{pass_cost, pass_loads}
-use Rattle.sigma_spl.specs.Shared.Owners.{ArePhasesShared, all_passes, most_actions}
+use Rattle.sigma_lower.proofs.Words.{◌≡◌, ◌≢◌, ℕ, ◌*◌, ◌^◌, ◌<◌, ◌≤◌, ◌==◌, Bool, true, false, List, [], ◌∷◌, length}
+use Rattle.sigma_lower.proofs.Words.{refl, sym, ap, ◌∙◌, arith, subst, Option, None, Some, if◌then◌else◌, All, map}
+use Rattle.sigma_lower.proofs.Words.{length-map, All-nil, All-cons, Kind, Idft, Request, forward_of, IsValid, Target}
+use Rattle.sigma_lower.proofs.Words.{LastIs, AreLimitedLoops, IsOrdered, PlainLoop, loops_in, multiplier_of, nest_of}
+use Rattle.sigma_lower.proofs.Words.{one_nest, most, PlainMultiplier, PlainNest, pass_cost, pass_loads, ArePhasesShared}
+use Rattle.sigma_lower.proofs.Words.{target_of, PlainSigma, IsReadyLoop, PlainWork, kernel, smp_of, Layout, layout_of}
+use Rattle.sigma_lower.proofs.Words.{layout_size, Breakdown, IsWholeTree, vec_of, PlainFactor, CanLower, closed_phases}
+use Rattle.sigma_lower.proofs.Words.{phase_term, PlainPass, in_order, merged_of, merged_phases, loop_of, PlainTerm}
+use Rattle.sigma_lower.proofs.Words.{factor_term, lowered_of, terms_in, All-weaker, most_actions, factor_by, whole_of}
+use Rattle.sigma_lower.proofs.Words.{whole_sigma, closing_term}
+use Rattle.sigma_spl.specs.Shared.Owners.{all_passes}
 use Rattle.sigma_spl.specs.Shared.Ready.{diagonal_tables, passes_tables, work_tables}
-use Rattle.sigma_spl.specs.Shared.Targets.{target_of}
-use Rattle.sigma_spl.specs.Sigma.{PlainSigma}
-use Rattle.sigma_spl.specs.Term as terms
-use Rattle.sigma_spl.specs.Trees.{CountsTree, IsFree, IsReadyLoop, IsTreeSigma, loops_of_phases, phases_for}
-use Rattle.sigma_spl.specs.Work.{PlainWork, kernel, rows, horner, tile, copy}
-use Rattle.smp_rewrite.specs.Cut.{smp_of}
-use Rattle.smp_rewrite.specs.LayoutSteps.Layout.{Layout, layout_of, layout_size}
-use Rattle.smp_rewrite.specs.LayoutSteps.Whole.{factor_by, whole_of}
-use Rattle.tree_model.specs.Breakdown.{Breakdown}
-use Rattle.tree_model.specs.Chosen.{IsWholeTree}
-use Rattle.vec_rewrite.specs.Turning.{vec_of}
-use Rattle.vec_rewrite.specs.Vectors.{PlainFactor}
-use Rattle.sigma_lower.specs.Merged.{CanLower, close_last, closed_phases, whole_sigma}
-use Rattle.sigma_lower.specs.Shared.{phase_term}
-use Rattle.sigma_lower.specs.TreeLoops.Merge.{PlainPass, in_order, merged_of, merged_phases}
-use Rattle.sigma_lower.specs.TreeLoops.Nests.{loop_of}
+use Rattle.sigma_spl.specs.Trees.{CountsTree, IsFree, IsTreeSigma, loops_of_phases, phases_for}
 use Rattle.sigma_lower.specs.TreeSigmas.{TreesAreSigmas}
-use Rattle.sigma_lower.specs.TreeTerms.Term.{PlainTerm, factor_term, lowered_of, terms_in}
 use Rattle.sigma_lower.proofs.HaveLoops.{phases_have_loops}
+use Rattle.sigma_lower.proofs.Closing.{close-is}
 use Rattle.sigma_lower.proofs.Ordered.{trees_ordered}
 use Rattle.sigma_lower.proofs.TreeLayouts.{trees_can_lower}
 use Rattle.sigma_lower.proofs.TreeLoops.Counts.{merge_counts}
@@ -47,16 +26,17 @@ use Rattle.sigma_lower.proofs.TreeSigmas.ClosedLoops.{TakesClosing}
 use Rattle.sigma_lower.proofs.TreeSigmas.ClosedPhases.{IsPhase, closing_loops, each-some, layout-takes, loops_by}
 use Rattle.sigma_lower.proofs.TreeSigmas.ClosedPhases.{whole-loops, whole-phases}
 use Rattle.sigma_lower.proofs.TreeSigmas.Closing.{takes-phases, whole-bounded, whole-costs, whole-length, whole-loads}
-use Rattle.sigma_lower.proofs.TreeSigmas.Closing.{whole-ready, whole-shared}
+use Rattle.sigma_lower.proofs.TreeSigmas.Closing.{closing-are, whole-ready}
 use Rattle.sigma_lower.proofs.TreeSigmas.Few.{AreFewMerged, few_merged}
 use Rattle.sigma_lower.proofs.TreeSigmas.Hosted.{IsHosted}
 use Rattle.sigma_lower.proofs.TreeSigmas.Known.{AllKnown, IsKnown, layout-known}
-use Rattle.sigma_lower.proofs.TreeSigmas.Lasts.{HasItem, order-map}
+use Rattle.sigma_lower.proofs.TreeSigmas.Lasts.{HasItem, length-last, order-map}
 use Rattle.sigma_lower.proofs.TreeLoops.PassLists.{all-split}
 use Rattle.sigma_lower.proofs.TreeSigmas.Owned.{phases-shared}
 use Rattle.sigma_lower.proofs.TreeSigmas.Ready.{ready-loop}
 use Rattle.sigma_lower.proofs.TreeSigmas.TreeCounts.{forward_costs, forward_loads}
 use Rattle.sigma_lower.proofs.TreeSigmas.TreeHosted.{tree_hosted}
+use Rattle.sigma_spl.specs.Term as terms
 
 -- ---- loops that are ready
 
@@ -82,10 +62,7 @@ passes-flat phases = order-map one_nest phases
 
 work-one : (w : PlainWork) → work_tables w ≤ 1
 work-one (kernel trees) = omega arith
-work-one (rows root size) = omega arith
-work-one (horner root size) = omega arith
-work-one (tile v) = omega arith
-work-one (copy size) = omega arith
+work-one _ = omega arith
 
 diagonal-one : (o : Option PlainMultiplier) → diagonal_tables o ≤ 1
 diagonal-one None = omega arith
@@ -110,20 +87,15 @@ free-last n (p ∷ q ∷ ps) takes = free-last n (q ∷ ps) takes
 
 -- only an inverse has one
 no-factor : (kind : Kind) (c : Request) → kind ≢ Idft → factor_by kind c ≡ None
-no-factor Dft c other = refl
-no-factor Wht c other = refl
 no-factor Idft c other = absurd (other refl)
+no-factor _ c other = refl
 
 -- ---- one phase, or two
 
 length-closed : (n : ℕ) (o : Option ℕ) (ts : List terms.PlainTerm) → length (closed_phases n o ts) ≡ length ts
 length-closed n None ts = refl
-length-closed n (Some v) ts = length-last ts
-  where
-    length-last : (ts : List terms.PlainTerm) → length (close_last n v ts) ≡ length ts
-    length-last [] = refl
-    length-last (t ∷ []) = refl
-    length-last (t ∷ u ∷ ts) = ap suc (length-last (u ∷ ts))
+length-closed n (Some v) ts =
+    ap length (close-is n v ts) ∙ length-last (λ t. terms.product t (closing_term n v)) ts
 
 module _ (c : Request) (t : Breakdown) where
   forward-count : length (map phase_term (terms_in (vec_of (smp_of (target_of c) (whole_of c t))))) ≡ phases_for c.procs
@@ -203,8 +175,8 @@ module _ (c : Request) (t : Breakdown) (valid : IsValid c) (whole : IsWholeTree 
 
   owned : ArePhasesShared h (map (map one_nest) closed)
   owned =
-      whole-shared h loops each takes factor
-      (phases-shared h (merged_phases h l) known (phases_are_shared h l is.shares is.good))
+      phases-shared h (merged_phases h l) closed (closing-are h factor (merged_phases h l)) known
+      (phases_are_shared h l is.shares is.good)
 
   -- ---- they are few
 

@@ -1,53 +1,22 @@
 -- The loops of a pass: how often they run, and how many they are.
-use Rattle.std.proofs.Common.{◌≡◌, ℕ, zero, suc, ◌*◌, ◌^◌, ◌<◌, ◌≤◌, arith, refl, sym, ap, List, [], ◌∷◌, length, inl}
-use Rattle.std.proofs.Common.{inr, subst, le-mul_of_pos_right, mul_comm}
-use Rattle.std.specs.Prelude.{All, map, drop}
-use Rattle.std.proofs.Math.Nat.{pow-succ'}
-use Rattle.std.proofs.Math.Pow.{pow_mono}
-use Rattle.std.proofs.lemmas.Bool.{cases_lt}
-use Rattle.std.proofs.lemmas.List.Elements.{All-nil, All-cons, All-tail}
-use Rattle.std.proofs.lemmas.Nat.{mul-le}
-use Rattle.sigma_spl.specs.Limits.{AreSeveral}
-use Rattle.operators.specs.declared.tensor_paths.Tensor.{Tensor}
-use Rattle.operators.specs.declared.tensor_paths.Tensor.TheVariants.{Blocks, Columns}
-use Rattle.operators.specs.TensorPaths.Path.{Path, count_of, size_under}
+use Rattle.sigma_lower.proofs.Words.{◌≡◌, ℕ, zero, suc, ◌*◌, ◌^◌, ◌<◌, ◌≤◌, arith, refl, sym, ap, List, [], ◌∷◌, length}
+use Rattle.sigma_lower.proofs.Words.{inl, inr, subst, le-mul_of_pos_right, All, map, drop, pow-succ', pow_mono}
+use Rattle.sigma_lower.proofs.Words.{cases_lt, All-nil, All-cons, All-tail, mul-le, AreSeveral, Path, copies_of}
+use Rattle.sigma_lower.proofs.Words.{count_of, size_under-copies, le-times}
 use Rattle.sigma_spl.proofs.Small.{size-positive}
-
-pub under-least : (path : Path) (n : ℕ) → AreSeveral path → 0 < n → n ≤ size_under path n
-under-least [] n wide h = omega arith
-under-least (Blocks c ∷ path) n wide h =
-    let inner = under-least path n wide.1 h in
-    let more : size_under path n ≤ size_under path n * c = le-mul_of_pos_right {m = c} (size_under path n) (omega (arith, wide.0)) in omega (arith, mul_comm c (size_under path n))
-under-least (Columns c ∷ path) n wide h =
-    let inner = under-least path n wide.1 h in
-    let more : size_under path n ≤ size_under path n * c = le-mul_of_pos_right {m = c} (size_under path n) (omega (arith, wide.0)) in omega arith
-
--- a tensor's count, and the size under it
-record FitsUnder (t : Tensor) (path : Path) (n : ℕ) : Type 0 where
-  count : count_of t ≤ 1048576
-  rest : size_under path n ≤ 1048576
-
-fits-under : (t : Tensor) (path : Path) (n : ℕ) → AreSeveral (t ∷ path) → 0 < n → size_under (t ∷ path) n ≤ 1048576 →
-    FitsUnder t path n
-fits-under (Blocks c) path n wide h high =
-    let count : c ≤ c * size_under path n = le-mul_of_pos_right {m = size_under path n} c (size-positive path n wide.1 h) in
-    let rest : size_under path n ≤ size_under path n * c = le-mul_of_pos_right {m = c} (size_under path n) (omega (arith, wide.0)) in
-    record { count = omega arith; rest = omega (arith, mul_comm c (size_under path n)) }
-fits-under (Columns c) path n wide h high =
-    let count : c ≤ c * size_under path n = le-mul_of_pos_right {m = size_under path n} c (size-positive path n wide.1 h) in
-    let rest : size_under path n ≤ size_under path n * c = le-mul_of_pos_right {m = c} (size_under path n) (omega (arith, wide.0)) in
-    record { count = omega (arith, mul_comm c (size_under path n)); rest = omega arith }
 
 -- what a loop's count may be
 abbrev pub IsCount : ℕ → Type 0
 IsCount k = (2 ≤ k) × (k ≤ 1048576)
 
-pub loop-counts : (path : Path) (n : ℕ) → AreSeveral path → 0 < n → size_under path n ≤ 1048576 →
-    All IsCount (map count_of path)
-loop-counts [] n wide h high = All-nil IsCount
-loop-counts (t ∷ path) n wide h high =
-    let f = fits-under t path n wide h high in
-    All-cons IsCount (count_of t) (map count_of path) (wide.0, f.count) (loop-counts path n wide.1 h f.rest)
+pub loop-counts : (path : Path) → AreSeveral path → copies_of path ≤ 1048576 → All IsCount (map count_of path)
+loop-counts [] wide high = All-nil IsCount
+loop-counts (t ∷ path) wide high =
+    let some : 0 < copies_of path = omega (arith, size-positive path 1 wide.1 (omega arith), size_under-copies path 1) in
+    let count : count_of t ≤ count_of t * copies_of path = le-mul_of_pos_right {m = copies_of path} (count_of t) some in
+    let rest : copies_of path ≤ count_of t * copies_of path =
+    le-times (count_of t) (copies_of path) (omega (arith, wide.0)) in
+    All-cons IsCount (count_of t) (map count_of path) (wide.0, omega arith) (loop-counts path wide.1 (omega arith))
 
 pub counts-drop : (k : ℕ) (xs : List ℕ) → All IsCount xs → All IsCount (drop k xs)
 counts-drop zero xs h = h
@@ -55,9 +24,8 @@ counts-drop (suc k) [] h = All-nil IsCount
 counts-drop (suc k) (x ∷ xs) h = counts-drop k xs (All-tail IsCount x xs h)
 
 pub length-drop : (k : ℕ) (xs : List ℕ) → length (drop k xs) ≤ length xs
-length-drop zero xs = omega arith
-length-drop (suc k) [] = omega arith
 length-drop (suc k) (x ∷ xs) = omega (arith, length-drop k xs)
+length-drop _ _ = omega arith
 
 pub length-tensors : (path : Path) → length (map count_of path) ≡ length path
 length-tensors [] = refl
@@ -66,13 +34,9 @@ length-tensors (t ∷ path) = ap suc (length-tensors path)
 twice : (k c size : ℕ) → 2 ≤ c → 2 ^ k ≤ size → 2 ^ suc k ≤ c * size
 twice k c size two h = subst (λ p. p ≤ c * size) (sym (pow-succ' 2 k)) (mul-le 2 (2 ^ k) c size two h)
 
-pub path-weight : (path : Path) (n : ℕ) → AreSeveral path → 0 < n → 2 ^ length path ≤ size_under path n
-path-weight [] n wide h = omega arith
-path-weight (Blocks c ∷ path) n wide h = twice (length path) c (size_under path n) wide.0 (path-weight path n wide.1 h)
-path-weight (Columns c ∷ path) n wide h =
-    let turned : size_under path n * c ≡ c * size_under path n = omega arith in
-    let more : 2 ^ suc (length path) ≤ c * size_under path n = twice (length path) c (size_under path n) wide.0 (path-weight path n wide.1 h) in
-    subst (λ x. 2 ^ suc (length path) ≤ x) (sym turned) more
+pub path-weight : (path : Path) → AreSeveral path → 2 ^ length path ≤ copies_of path
+path-weight [] wide = omega arith
+path-weight (t ∷ path) wide = twice (length path) (count_of t) (copies_of path) wide.0 (path-weight path wide.1)
 
 pub weight-small : (k : ℕ) → 2 ^ k ≤ 1048576 → k ≤ 20
 weight-small k h =

@@ -1,34 +1,23 @@
 -- The places of a pass's nest are the pass's, and the lanes of its registers stand side by side.
-use Rattle.std.proofs.Common.{◌≡◌, ℕ, ◌+◌, ◌*◌, ◌<◌, List, [], ◌∷◌, length, map, refl, sym, ap, ◌∙◌, arith, subst}
-use Rattle.std.proofs.Common.{Option, Some, None}
-use Rattle.std.specs.Option.{option_map}
-use Rattle.std.proofs.lemmas.Option.{none-some, same_Some}
-use Rattle.std.specs.Prelude.{slice_index}
+use Rattle.sigma_lower.proofs.Words.{◌≡◌, ℕ, ◌+◌, ◌*◌, ◌<◌, List, [], ◌∷◌, length, map, refl, sym, ap, ◌∙◌, arith}
+use Rattle.sigma_lower.proofs.Words.{subst, Option, Some, None, option_map, none-some, same_Some, slice_index}
+use Rattle.sigma_lower.proofs.Words.{PlainDiagonal, PlainPass, through, gather_place, scatter_place, loop_of, taken_of}
+use Rattle.sigma_lower.proofs.Words.{AreCounts, Fits, IsLimitedPass, all_simplified, diagonal_places, place_sum, Sum}
+use Rattle.sigma_lower.proofs.Words.{constant, value, Target, IsHost, item_of, lane_step, values_of, loops_of, nest_of}
+use Rattle.sigma_lower.proofs.Words.{limits_in, multiplier_of, items_out, PlainMultiplier, load_place, store_place}
+use Rattle.sigma_lower.proofs.Words.{factor_at, factor_count, PlainWork, work_size, ranged, IsFramed, count_of, place}
+use Rattle.sigma_lower.proofs.Words.{AreInRange, inner_of, places_by, IsGoodLoop, vectors_of, sound-place_sum}
 use Rattle.sigma_lower.specs.TreeLoops.Merge.{diagonal_place}
-use Rattle.sigma_lower.specs.TreeLoops.Merge.{PlainDiagonal, PlainPass, through, gather_place, scatter_place}
-use Rattle.sigma_lower.specs.TreeLoops.Nests.{loop_of, taken_of}
-use Rattle.sigma_lower.specs.TreeLoops.Placed.{AreCounts, Fits, IsLimitedPass, all_simplified, diagonal_places, place_sum}
 use Rattle.sigma_lower.proofs.TreeLoops.LineMoves.{number-fits}
 use Rattle.sigma_lower.proofs.TreeLoops.LoopItems.{counts-from, name-constant}
 use Rattle.sigma_lower.proofs.TreeLoops.PlaceValues.{follows, through-end}
 use Rattle.sigma_lower.proofs.TreeLoops.Staying.{carried-end}
-use Rattle.perm_algebra.specs.Affine.{Sum, constant, value}
 use Rattle.perm_algebra.proofs.AffineLaws.{value-le-top}
 use Rattle.sigma_spl.proofs.Nests.{alone}
 use Rattle.sigma_lower.proofs.TreeLoops.Shaped.{IsShaped, IsShapedWork}
-use Rattle.operators.specs.declared.target.Target.{Target}
-use Rattle.sigma_spl.specs.Shared.Owners.{IsHost}
 use Rattle.sigma_spl.specs.Shared.Running.{FindsFactors, HasResidues, MovesVectors}
-use Rattle.sigma_spl.specs.Shared.Machine.{item_of, lane_step, values_of}
-use Rattle.sigma_spl.specs.Copies.{loops_of}
-use Rattle.sigma_spl.specs.Loops.{nest_of, limits_in, multiplier_of, places_by, IsGoodLoop}
-use Rattle.sigma_spl.specs.Merge.{items_out}
-use Rattle.sigma_spl.specs.Nest.{PlainMultiplier, inner_of, load_place, store_place, factor_at, factor_count}
-use Rattle.sigma_spl.specs.Work.{PlainWork, vectors_of, work_size}
-use Rattle.sigma_spl.proofs.Natural.{looped, place-alone, ranged, sound-place_sum}
+use Rattle.sigma_spl.proofs.Natural.{looped, place-alone}
 use Rattle.sigma_spl.proofs.Listed.{loops_have_places}
-use Rattle.sigma_lower.specs.TreeLoops.SharedPasses.Shared.{IsFramed}
-use Rattle.operators.specs.TensorPaths.Path.{count_of, place, AreInRange}
 use Rattle.sigma_lower.proofs.TreeSigmas.Frames.{range-of, named, values-named, IsShare, share-of, item-below}
 use Rattle.matrix_meaning.proofs.Requests.{power_below}
 
@@ -51,22 +40,25 @@ module _ (c : Target) (p : PlainPass) (good : IsGoodLoop c.lanes (loop_of p)) wh
   w = p.work
 
   module _ (vs : List ℕ) (k : ℕ) (range : AreInRange p.path vs) (below : k < work_size p.work) where
-    in_work : k < work_size w
-    in_work = below
-
     pub load-is : load_place w (nest_of (loop_of p)).gathers vs k ≡ gather_place p vs k
-    load-is = (loops_have_places c.lanes (loop_of p) vs k good (looped p.path vs range) in_work).loads
+    load-is = (loops_have_places c.lanes (loop_of p) vs k good (looped p.path vs range) below).loads
 
     pub store-is : store_place w (nest_of (loop_of p)).scatters vs k ≡ scatter_place p vs k
-    store-is = (loops_have_places c.lanes (loop_of p) vs k good (looped p.path vs range) in_work).stores
+    store-is = (loops_have_places c.lanes (loop_of p) vs k good (looped p.path vs range) below).stores
 
     pub factor-is : (d : PlainDiagonal) → p.diagonal ≡ Some d →
         store_place w (places_by (loop_of p) (taken_of d).places (items_out w (length p.path))) vs k
         ≡ diagonal_place p d vs k
     factor-is d is =
-        (loops_have_places c.lanes (loop_of p) vs k good (looped p.path vs range) in_work).factors (taken_of d)
+        (loops_have_places c.lanes (loop_of p) vs k good (looped p.path vs range) below).factors (taken_of d)
         (ap (option_map taken_of) is)
         ∙ through-end d.places (inner_of d.path (d.rows * d.cols)) _
+
+  -- the places of a nest's diagonal are those of its pass's
+  taken-at : (m : PlainMultiplier) (t : IsTaken p m) (vs : List ℕ) (k : ℕ) → AreInRange p.path vs →
+      k < work_size p.work → store_place w m.places vs k ≡ diagonal_place p t.diagonal vs k
+  taken-at m t vs k range below =
+      ap (λ (n : PlainMultiplier). store_place w n.places vs k) t.same ∙ factor-is vs k range below t.diagonal t.is
 
   -- ---- lanes
 
@@ -76,58 +68,37 @@ module _ (c : Target) (p : PlainPass) (good : IsGoodLoop c.lanes (loop_of p)) wh
     some : 0 < c.procs
     some = let procs = host.procs.0 in omega (arith, procs)
 
-    values-are : (l : ℕ) → values_of c w q l vs ≡ values_of c p.work (named c q) l vs
-    values-are l = values-named c p.work q l vs
-
     share : IsShare c frame.loops q vs
     share = share-of c p frame q lane vs some (ranged p.path _ range)
 
-    in_range : (l : ℕ) → l < c.lanes → AreInRange p.path (values_of c p.work (named c q) l vs)
-    in_range l high = range-of c p frame (named c q) l vs share.proc high share.inner
+    -- an item on a lane stands where the pass says, so the lanes are as far apart as there
+    item-at : (at places : List ℕ → ℕ → ℕ) →
+        ((us : List ℕ) (j : ℕ) → AreInRange p.path us → j < work_size p.work → at us j ≡ places us j) → (l : ℕ) →
+        l < c.lanes →
+        at (values_of c w q l vs) (item_of w k l) ≡ places (values_of c w (named c q) l vs) (item_of w k l)
+    item-at at places is l high =
+        ap (λ us. at us (item_of w k l)) (values-named c p.work q l vs)
+        ∙ is (values_of c w (named c q) l vs) (item_of w k l)
+        (range-of c p frame (named c q) l vs share.proc high share.inner) (item-below c p.work k l frame.lanes below high)
 
-    in_copy : (l : ℕ) → l < c.lanes → item_of p.work k l < work_size p.work
-    in_copy l high = item-below c p.work k l frame.lanes below high
-
-    load-at : (l : ℕ) → l < c.lanes →
-        load_place w (nest_of (loop_of p)).gathers (values_of c w q l vs) (item_of w k l)
-        ≡ gather_place p (values_of c p.work (named c q) l vs) (item_of p.work k l)
-    load-at l high =
-        ap (λ us. load_place w (nest_of (loop_of p)).gathers us (item_of w k l)) (values-are l)
-        ∙ load-is (values_of c p.work (named c q) l vs) (item_of p.work k l) (in_range l high)
-        (in_copy l high)
-
-    store-at : (l : ℕ) → l < c.lanes →
-        store_place w (nest_of (loop_of p)).scatters (values_of c w q l vs) (item_of w k l)
-        ≡ scatter_place p (values_of c p.work (named c q) l vs) (item_of p.work k l)
-    store-at l high =
-        ap (λ us. store_place w (nest_of (loop_of p)).scatters us (item_of w k l)) (values-are l)
-        ∙ store-is (values_of c p.work (named c q) l vs) (item_of p.work k l) (in_range l high)
-        (in_copy l high)
-
-    first : 0 < c.lanes
-    first = omega (arith, on)
-
-    factor-at : (m : PlainMultiplier) (t : IsTaken p m) (l : ℕ) → l < c.lanes →
-        store_place w m.places (values_of c w q l vs) (item_of w k l)
-        ≡ diagonal_place p t.diagonal (values_of c p.work (named c q) l vs) (item_of p.work k l)
-    factor-at m t l high =
-        ap (λ (n : PlainMultiplier). store_place w n.places (values_of c w q l vs) (item_of w k l)) t.same
-        ∙ ap (λ us. store_place w (places_by (loop_of p) (taken_of t.diagonal).places
-        (items_out w (length p.path))) us (item_of w k l)) (values-are l)
-        ∙ factor-is (values_of c p.work (named c q) l vs) (item_of p.work k l) (in_range l high)
-        (in_copy l high) t.diagonal t.is
+    apart : (at places : List ℕ → ℕ → ℕ) →
+        ((us : List ℕ) (j : ℕ) → AreInRange p.path us → j < work_size p.work → at us j ≡ places us j) → (step : ℕ) →
+        places (values_of c w (named c q) lane vs) (item_of w k lane)
+        ≡ places (values_of c w (named c q) 0 vs) (item_of w k 0) + step →
+        at (values_of c w q lane vs) (item_of w k lane) ≡ at (values_of c w q 0 vs) (item_of w k 0) + step
+    apart at places is step moved =
+        item-at at places is lane on ∙ moved ∙ ap (λ x. x + step) (sym (item-at at places is 0 (omega (arith, on))))
 
     pub moves-vectors : MovesVectors c (nest_of (loop_of p)) q vs lane k
     moves-vectors =
         let moved = frame.vectors vs (named c q) lane k share.inner share.proc on below in
         record {
-          loads = load-at lane on ∙ moved.gathers ∙ ap (λ x. x + lane) (sym (load-at 0 first));
-          stores = store-at lane on ∙ moved.scatters ∙ ap (λ x. x + lane) (sym (store-at 0 first));
+          loads = apart (load_place w (nest_of (loop_of p)).gathers) (gather_place p) load-is lane moved.gathers;
+          stores = apart (store_place w (nest_of (loop_of p)).scatters) (scatter_place p) store-is lane moved.scatters;
           factors = λ m is.
               let t = taken-is p m is in
-              factor-at m t lane on
-              ∙ frame.factors t.diagonal t.is vs (named c q) lane k share.inner share.proc on below
-              ∙ ap (λ x. x + lane_step p.work * lane) (sym (factor-at m t 0 first));
+              apart (store_place w m.places) (diagonal_place p t.diagonal) (taken-at m t) (lane_step w * lane)
+              (frame.factors t.diagonal t.is vs (named c q) lane k share.inner share.proc on below);
         }
 
   -- ---- factors
@@ -164,9 +135,7 @@ module _ (c : Target) (p : PlainPass) (good : IsGoodLoop c.lanes (loop_of p)) wh
       let t = taken-is p m is in
       let d = t.diagonal in
       let inside : diagonal_place p d vs k < d.rows * d.cols = factor-below vs k shape limited range below d t.is in
-      let value_is : store_place w m.places vs k ≡ diagonal_place p d vs k =
-      ap (λ (n : PlainMultiplier). store_place w n.places vs k) t.same
-      ∙ factor-is vs k (ranged p.path vs range) below d t.is in
+      let value_is = taken-at m t vs k (ranged p.path vs range) below in
       let count : factor_count m.factors ≡ d.rows * d.cols =
       ap (λ (n : PlainMultiplier). factor_count n.factors) t.same in
       omega (arith, inside, value_is, count)

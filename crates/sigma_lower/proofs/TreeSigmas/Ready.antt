@@ -1,56 +1,52 @@
 -- Each loop of a layout can be run, and a program can be made of it.
-use Rattle.std.proofs.Common.{◌≡◌, ℕ, ◌+◌, ◌<◌, ◌≤◌, List, [], ◌∷◌, ◌++◌, All, length, map, refl, sym, ap, ap₂, ◌∙◌}
-use Rattle.std.proofs.Common.{arith, subst, Some}
-use Rattle.std.specs.Prelude.{slice_index, slice_index_or}
-use Rattle.std.specs.Option.{option_map}
-use Rattle.std.proofs.lemmas.List.Elements.{All-weaker}
-use Rattle.index_fn.specs.Mapping.{Mapping}
+use Rattle.sigma_lower.proofs.Words.{◌≡◌, ℕ, ◌+◌, ◌<◌, ◌≤◌, List, [], ◌∷◌, ◌++◌, All, length, map, sym, ap, ap₂, ◌∙◌}
+use Rattle.sigma_lower.proofs.Words.{arith, subst, Some, slice_index, option_map, Mapping, Target, AreInRange, count_of}
+use Rattle.sigma_lower.proofs.Words.{place, size_under, Sum, constant, variable, value, simplified, loops_of, limits_in}
+use Rattle.sigma_lower.proofs.Words.{nest_of, items_out, PlainMultiplier, PlainNest, IsHost, IsReadyLoop, PlainWork}
+use Rattle.sigma_lower.proofs.Words.{rows, horner, copy, work_size, ranged, PlainPass, through, ◌*◌, loop_of, taken_of}
+use Rattle.sigma_lower.proofs.Words.{copies_of, size_under-copies, le-mul_of_pos_right, all_simplified, place_sum}
+use Rattle.sigma_lower.proofs.Words.{kernel, tile, slice_index_or, map-id, All-weaker, map-map, NamesItems, AreFormed}
+use Rattle.sigma_lower.proofs.Words.{IsReadyMultiplier, IsReadyNest, LoadsAlike, CanRunNest}
 use Rattle.operators.specs.Sizes.{max_size}
-use Rattle.operators.specs.declared.target.Target.{Target}
-use Rattle.operators.specs.TensorPaths.Path.{AreInRange, count_of, place, size_under}
-use Rattle.perm_algebra.specs.Affine.{Sum, constant, variable, value, simplified}
-use Rattle.sigma_spl.specs.Copies.{loops_of}
-use Rattle.sigma_spl.specs.Good.{NamesItems}
-use Rattle.sigma_spl.specs.Loops.{AreFormed, limits_in, nest_of}
-use Rattle.sigma_spl.specs.Merge.{items_out, all_simplified, place_sum}
-use Rattle.sigma_spl.specs.Nest.{PlainMultiplier, PlainNest}
 use Rattle.sigma_spl.specs.Shared.Machine.{first_loop, loop_counts}
-use Rattle.sigma_spl.specs.Shared.Owners.{IsHost}
-use Rattle.sigma_spl.specs.Shared.Ready.{IsReadyMultiplier, IsReadyNest, LoadsAlike}
-use Rattle.sigma_spl.specs.Shared.Running.{CanRunNest}
-use Rattle.sigma_spl.specs.Trees.{IsReadyLoop}
-use Rattle.sigma_spl.specs.Work.{PlainWork, kernel, rows, horner, tile, copy, work_size}
-use Rattle.sigma_spl.proofs.Natural.{names-out, ranged, values-are, at-second}
+use Rattle.sigma_spl.specs.Shared.Running.{CanWork}
+use Rattle.sigma_spl.proofs.Natural.{names-out, values-are, at-second}
 use Rattle.sigma_spl.proofs.Nests.{names-simplified, two_below, with_more}
-use Rattle.sigma_lower.specs.TreeLoops.Merge.{PlainPass, through}
-use Rattle.sigma_lower.specs.TreeLoops.Nests.{loop_of, taken_of}
 use Rattle.sigma_lower.proofs.TreeLoops.LoopItems.{diagonal-size}
 use Rattle.sigma_lower.proofs.TreeLoops.PlaceValues.{value-at_place}
 use Rattle.sigma_lower.proofs.TreeLoops.Shaped.{IsShapedWork}
 use Rattle.sigma_lower.proofs.TreeSigmas.Frames.{nest-framed}
 use Rattle.sigma_lower.proofs.TreeSigmas.Known.{IsKnown}
 use Rattle.sigma_lower.proofs.TreeSigmas.Loops.{IsCount, counts-drop, length-drop, length-tensors, loop-counts}
-use Rattle.sigma_lower.proofs.TreeSigmas.Loops.{path-weight, under-least, weight-small}
+use Rattle.sigma_lower.proofs.TreeSigmas.Loops.{path-weight, weight-small}
 use Rattle.sigma_lower.proofs.TreeSigmas.Places.{taken-is, moves-vectors, finds-factors, residues-of}
-use Rattle.sigma_lower.proofs.TreeSigmas.Works.{can-work, no-copy}
+use Rattle.sigma_lower.proofs.TreeTerms.Sizes.{within_whole}
+use Rattle.sigma_lower.specs.TreeLoops.SharedPasses.Shared.{HasLanes}
+use Rattle.sigma_spl.specs.Trees.{IsNoCopy}
+
+-- ---- work
+
+-- its code does what it stands for
+pub can-work : (c : Target) (w : PlainWork) → IsShapedWork c.modulus w → HasLanes c w → CanWork c w
+can-work c (kernel trees) h lanes = h.1
+can-work c (rows root size) h lanes = (omega (arith, h.0), h.1)
+can-work c (tile v) h lanes = lanes
+can-work c _ h lanes = absurd h
+
+-- it is no copy
+pub no-copy : (m : ℕ) (w : PlainWork) → IsShapedWork m w → IsNoCopy w
+no-copy m (horner root size) h = absurd h
+no-copy m (copy size) h = absurd h
+no-copy m _ h = tt
 
 -- ---- names
 
 pub names-all : (w : PlainWork) (cs : ℕ → ℕ) (fs : List Mapping) (sums : List Sum) → AreFormed fs → NamesItems w sums →
     NamesItems w (map (all_simplified cs fs) sums)
-names-all w cs [] sums formed h = subst (NamesItems w) (sym (map-same sums)) h
-  where
-    map-same : (sums : List Sum) → map (λ e. e) sums ≡ sums
-    map-same [] = refl
-    map-same (e ∷ es) = ap (λ rest. e ∷ rest) (map-same es)
+names-all w cs [] sums formed h = subst (NamesItems w) (sym (map-id sums)) h
 names-all w cs (f ∷ fs) sums formed h =
-    subst (NamesItems w) (map-twice sums)
+    subst (NamesItems w) (map-map (all_simplified cs fs) (simplified cs f) sums)
     (names-all w cs fs (map (simplified cs f) sums) formed.1 (names-simplified w cs f sums formed.0 h))
-  where
-    map-twice : (sums : List Sum) →
-        map (all_simplified cs fs) (map (simplified cs f) sums) ≡ map (all_simplified cs (f ∷ fs)) sums
-    map-twice [] = refl
-    map-twice (e ∷ es) = ap (λ rest. all_simplified cs fs (simplified cs f e) ∷ rest) (map-twice es)
 
 -- ---- values in range, with others after them
 
@@ -84,13 +80,17 @@ module _ (c : Target) (p : PlainPass) (host : IsHost c) (known : IsKnown c p) wh
   fills : size_under p.path (work_size w) ≡ c.size
   fills = known.shaped.fills
 
+  copies-high : copies_of p.path ≤ 1048576
+  copies-high =
+      let n = work_size w in
+      let most : copies_of p.path ≤ copies_of p.path * n = le-mul_of_pos_right {m = n} (copies_of p.path) known.loop.some in
+      omega (arith, most, size_under-copies p.path n, fills, high)
+
   all-counts : All IsCount (map count_of p.path)
-  all-counts = loop-counts p.path (work_size w) known.shaped.wide known.loop.some (omega (arith, fills, high))
+  all-counts = loop-counts p.path known.shaped.wide copies-high
 
   few-loops : length p.path ≤ 20
-  few-loops =
-      let weight = path-weight p.path (work_size w) known.shaped.wide known.loop.some in
-      weight-small (length p.path) (omega (arith, weight, fills, high))
+  few-loops = weight-small (length p.path) (omega (arith, path-weight p.path known.shaped.wide, copies-high))
 
   shallow : length (loop_counts c z) ≤ 20
   shallow =
@@ -100,9 +100,7 @@ module _ (c : Target) (p : PlainPass) (host : IsHost c) (known : IsKnown c p) wh
       omega (arith, dropped, all, few)
 
   pub n-small : work_size w ≤ 1048576
-  n-small =
-      let least = under-least p.path (work_size w) known.shaped.wide known.loop.some in omega
-      (arith, least, fills, high)
+  n-small = omega (arith, within_whole p.path (work_size w) c.size host.size.0 fills, high)
 
   -- the nest with other work
   abbrev with_work : PlainWork → PlainNest
@@ -135,11 +133,10 @@ module _ (c : Target) (p : PlainPass) (host : IsHost c) (known : IsKnown c p) wh
       at-row-of root n vs row k range below under ∙ sym (at-row-of root n vs 0 k range (omega (arith, below)) under)
 
   work-alike : (v : PlainWork) → IsShapedWork c.modulus v → LoadsAlike (with_work v) v
-  work-alike (kernel trees) shaped = tt
   work-alike (rows root n) shaped = rows-alike root n
   work-alike (horner root n) shaped = absurd shaped
-  work-alike (tile v) shaped = tt
   work-alike (copy n) shaped = absurd shaped
+  work-alike _ shaped = tt
 
   alike : LoadsAlike z w
   alike = work-alike p.work known.shaped.work

@@ -1,52 +1,31 @@
 -- The loops of the layout of a tree count what the forward request's passes do in the cost model.
-use Rattle.std.proofs.Common.{◌≡◌, ℕ, List, [], ◌∷◌, map, refl, sym, ap, ap₂, ◌∙◌}
-use Rattle.sigma_lower.specs.TreeLoops.Laws.{Counted, counted_cost, counted_loads, whole_passes, AllCount, CountsAs}
-use Rattle.sigma_lower.specs.TreeLoops.Laws.{IsForwardTree}
+use Rattle.sigma_lower.proofs.Words.{◌≡◌, ℕ, List, [], ◌∷◌, map, refl, sym, ap, ap₂, ◌∙◌, Counted, whole_passes}
+use Rattle.sigma_lower.proofs.Words.{forward_by, forward_of, IsValid, Kind, Idft, Request, pass_cost, pass_loads}
+use Rattle.sigma_lower.proofs.Words.{Layout, layout_of, target_of, Breakdown, IsWholeTree, request_passes, merged_of}
+use Rattle.sigma_lower.proofs.Words.{PlainNest, counted_cost, counted_loads, AllCount, CountsAs, IsForwardTree}
+use Rattle.sigma_lower.proofs.Words.{RequestPass, cost_of_pass, loads_of_pass}
 use Rattle.sigma_lower.proofs.TreeLoops.LayoutCounts.{layouts_count}
-use Rattle.matrix_meaning.specs.Parts.{forward_by, forward_of}
-use Rattle.matrix_meaning.specs.Valid.{IsValid}
-use Rattle.matrix_meaning.specs.declared.Kind.{Kind}
-use Rattle.matrix_meaning.specs.declared.Kind.TheVariants.{Dft, Wht, Idft}
-use Rattle.matrix_meaning.specs.declared.Request.{Request}
 use Rattle.matrix_meaning.proofs.Requests.{forward_is_valid}
-use Rattle.sigma_spl.specs.Shared.Costs.{pass_cost, pass_loads}
-use Rattle.smp_rewrite.specs.LayoutSteps.Layout.{Layout, layout_of}
-use Rattle.sigma_spl.specs.Shared.Targets.{target_of}
 use Rattle.smp_rewrite.proofs.LayoutSteps.Wholes.{forward_fits}
-use Rattle.tree_model.specs.Breakdown.{Breakdown}
-use Rattle.tree_model.specs.Chosen.{IsWholeTree}
-use Rattle.tree_model.specs.WholePasses.{RequestPass, cost_of_pass, loads_of_pass, request_passes}
 use Rattle.tree_model.proofs.WholeTrees.{forward_size}
 use Rattle.sigma_lower.proofs.TreeSigmas.Counting.{layout_costs, layout_loads}
-use Rattle.sigma_lower.specs.TreeLoops.Merge.{merged_of}
-use Rattle.sigma_spl.specs.Nest.{PlainNest}
 use Rattle.sigma_lower.proofs.TreeSigmas.Owned.{pass_nests}
 use Rattle.sigma_lower.proofs.TreeSigmas.TreeHosted.{tree_hosted}
 
 -- ---- the forward request has the request's numbers
 
-record HasNumbers (c p : Request) : Type 0 where
-  weight : p.weight ≡ c.weight
-  modulus : p.modulus ≡ c.modulus
-  size : p.size ≡ c.size
-  lanes : p.lanes ≡ c.lanes
+costs-same : (kind : Kind) (c : Request) (l : Layout) →
+    map (counted_cost c.weight c.modulus c.size) (whole_passes c.lanes l)
+    ≡ map (counted_cost (forward_by kind c).weight (forward_by kind c).modulus (forward_by kind c).size)
+    (whole_passes (forward_by kind c).lanes l)
+costs-same Idft c l = refl
+costs-same _ c l = refl
 
-numbers : (kind : Kind) (c : Request) → HasNumbers c (forward_by kind c)
-numbers Dft c = record { weight = refl; modulus = refl; size = refl; lanes = refl }
-numbers Wht c = record { weight = refl; modulus = refl; size = refl; lanes = refl }
-numbers Idft c = record { weight = refl; modulus = refl; size = refl; lanes = refl }
-
-module _ (c p : Request) (same : HasNumbers c p) where
-  costs-same : (l : Layout) →
-      map (counted_cost c.weight c.modulus c.size) (whole_passes c.lanes l)
-      ≡ map (counted_cost p.weight p.modulus p.size) (whole_passes p.lanes l)
-  costs-same l =
-      sym (ap₂ (λ weight m. map (counted_cost weight m p.size) (whole_passes p.lanes l)) same.weight same.modulus
-      ∙ ap₂ (λ n v. map (counted_cost c.weight c.modulus n) (whole_passes v l)) same.size same.lanes)
-
-  loads-same : (l : Layout) →
-      map (counted_loads c.size) (whole_passes c.lanes l) ≡ map (counted_loads p.size) (whole_passes p.lanes l)
-  loads-same l = sym (ap₂ (λ n v. map (counted_loads n) (whole_passes v l)) same.size same.lanes)
+loads-same : (kind : Kind) (c : Request) (l : Layout) →
+    map (counted_loads c.size) (whole_passes c.lanes l)
+    ≡ map (counted_loads (forward_by kind c).size) (whole_passes (forward_by kind c).lanes l)
+loads-same Idft c l = refl
+loads-same _ c l = refl
 
 -- ---- pass by pass
 
@@ -54,9 +33,8 @@ all-are : (p : Request) (f : Counted → ℕ) (g : RequestPass → ℕ) →
     ((z : Counted) (q : RequestPass) → CountsAs p z q → f z ≡ g q) → (zs : List Counted) (qs : List RequestPass) →
     AllCount p zs qs → map f zs ≡ map g qs
 all-are p f g is [] [] h = refl
-all-are p f g is [] (q ∷ qs) h = absurd h
-all-are p f g is (z ∷ zs) [] h = absurd h
 all-are p f g is (z ∷ zs) (q ∷ qs) h = ap₂ (λ x xs. x ∷ xs) (is z q h.0) (all-are p f g is zs qs h.1)
+all-are p f g is _ _ h = absurd h
 
 -- ---- the loops of the layout
 
@@ -84,7 +62,7 @@ module _ (c : Request) (t : Breakdown) (valid : IsValid c) (h : IsWholeTree c t)
   pub forward_costs : map (pass_cost c.weight c.modulus) nests ≡ map (cost_of_pass c.size) (request_passes p t)
   forward_costs =
       layout_costs (target_of c) l (tree_hosted c t valid h) c.weight
-      ∙ costs-same c p (numbers c.kind c) l
+      ∙ costs-same c.kind c l
       ∙ all-are p (counted_cost p.weight p.modulus p.size) (cost_of_pass p.size) (λ z q h. h.operations)
       (whole_passes p.lanes l) (request_passes p t) all
       ∙ ap (λ n. map (cost_of_pass n) (request_passes p t)) (forward_size c)
@@ -92,7 +70,7 @@ module _ (c : Request) (t : Breakdown) (valid : IsValid c) (h : IsWholeTree c t)
   pub forward_loads : map pass_loads nests ≡ map (loads_of_pass c.size) (request_passes p t)
   forward_loads =
       layout_loads (target_of c) l (tree_hosted c t valid h)
-      ∙ loads-same c p (numbers c.kind c) l
+      ∙ loads-same c.kind c l
       ∙ all-are p (counted_loads p.size) (loads_of_pass p.size) (λ z q h. h.loads) (whole_passes p.lanes l)
       (request_passes p t) all
       ∙ ap (λ n. map (loads_of_pass n) (request_passes p t)) (forward_size c)

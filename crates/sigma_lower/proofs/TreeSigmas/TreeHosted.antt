@@ -1,32 +1,16 @@
 -- The layout of a request's tree can be hosted by the request's machine.
-use Rattle.std.proofs.Common.{◌≡◌, ℕ, ◌*◌, ◌≤◌, Bool, true, false, arith, refl, subst, sym, if◌then◌else◌}
-use Rattle.std.specs.Prelude.{nat_le}
-use Rattle.std.proofs.lemmas.Bool.Decides.{nat_tests}
-use Rattle.sigma_lower.specs.Merged.{CanLower}
+use Rattle.sigma_lower.proofs.Words.{◌≡◌, ℕ, ◌*◌, ◌≤◌, Bool, true, false, arith, refl, subst, sym, if◌then◌else◌}
+use Rattle.sigma_lower.proofs.Words.{nat_le, nat_tests, CanLower, forward_of, IsValid, Kind, Dft, Wht, Idft, Request}
+use Rattle.sigma_lower.proofs.Words.{IsHost, kernel, Layout, work, by, layout_of, IsNodeTree, target_of, left_tree}
+use Rattle.sigma_lower.proofs.Words.{right_tree, Breakdown, leaf, node, AllowsLeaf, IsWholeTree, is_kernel, node_root}
+use Rattle.sigma_lower.proofs.Words.{trees_size, IsSmallWork, kernel-short, node_of, long_work, whole_of}
 use Rattle.sigma_lower.proofs.TreeLayouts.{trees_can_lower}
-use Rattle.kernel_gen.proofs.NodeCosts.{kernel-short}
 use Rattle.sigma_lower.proofs.TreeLoops.Shaped.{HasWorks}
-use Rattle.matrix_meaning.specs.Parts.{forward_of}
-use Rattle.matrix_meaning.specs.Valid.{IsValid}
-use Rattle.matrix_meaning.specs.declared.Kind.{Kind}
-use Rattle.matrix_meaning.specs.declared.Kind.TheVariants.{Dft, Wht, Idft}
-use Rattle.matrix_meaning.specs.declared.Request.{Request}
-use Rattle.sigma_spl.specs.Shared.Owners.{IsHost}
-use Rattle.sigma_spl.specs.Work.{kernel, node_of}
-use Rattle.smp_rewrite.specs.LayoutSteps.Layout.{Layout, work, by, layout_of, long_work}
-use Rattle.kernel_gen.specs.Nodes.{IsNodeTree}
-use Rattle.sigma_spl.specs.Shared.Targets.{target_of}
-use Rattle.smp_rewrite.specs.LayoutSteps.Whole.{whole_of}
-use Rattle.kernel_gen.proofs.NodeTrees.{left_tree, right_tree}
 use Rattle.tree_model.proofs.RootedTrees.{rooted_size}
 use Rattle.smp_rewrite.proofs.LayoutSteps.Wholes.{forward_tree}
-use Rattle.tree_model.specs.Breakdown.{Breakdown, leaf, node, size_of, AllowsLeaf}
-use Rattle.tree_model.specs.Chosen.{IsWholeTree}
-use Rattle.tree_model.specs.Cost.{is_kernel, node_root}
-use Rattle.tree_model.specs.Trees.{trees_size}
+use Rattle.tree_model.specs.Breakdown.{size_of}
 use Rattle.tree_model.specs.Whole.{left_of, right_of, rooted_of}
 use Rattle.sigma_lower.proofs.TreeSigmas.Hosted.{IsHosted}
-use Rattle.sigma_spl.specs.Shared.Ready.{IsSmallWork}
 
 -- ---- its works are small
 

@@ -1,18 +1,9 @@
 -- Steps of a layout after more tensors, and paths of tensors that may have one copy.
-use Rattle.std.proofs.Common.{◌≡◌, ℕ, ◌/◌, Bool, true, false, arith, refl, sym, ap, ap₂, ◌∙◌, List, [], ◌∷◌, ◌++◌}
-use Rattle.std.proofs.Common.{if◌then◌else◌, append-nil, append_assoc}
-use Rattle.std.specs.Prelude.{map, ◌==◌}
-use Rattle.std.proofs.lemmas.List.{map-append}
-use Rattle.smp_rewrite.specs.Smp.{within}
-use Rattle.smp_rewrite.specs.LayoutSteps.Step.{turns, twiddles, thomas_in, thomas_out, PlainStep, step, rule_steps}
-use Rattle.smp_rewrite.specs.LayoutSteps.Step.{steps_of}
-use Rattle.operators.specs.declared.tensor_paths.Tensor.{Tensor}
-use Rattle.operators.specs.declared.tensor_paths.Tensor.TheVariants.{Blocks, Columns}
-use Rattle.operators.specs.TensorPaths.Path.{Path, count_of}
-use Rattle.tree_model.specs.declared.tree.Rule.{Rule}
-use Rattle.tree_model.specs.declared.tree.Rule.TheVariants.{Gt, Ct, Split, Dim}
-use Rattle.smp_rewrite.specs.LayoutSteps.Layout.{Layout, work, by, layout_size}
-use Rattle.sigma_lower.specs.TreeTerms.Root.{right_path, left_path, whole_path}
+use Rattle.sigma_lower.proofs.Words.{◌≡◌, ℕ, ◌/◌, Bool, true, false, arith, refl, sym, ap, ap₂, ◌∙◌, List, [], ◌∷◌}
+use Rattle.sigma_lower.proofs.Words.{◌++◌, if◌then◌else◌, append-nil, append_assoc, map, ◌==◌, map-append, within}
+use Rattle.sigma_lower.proofs.Words.{turns, twiddles, thomas_in, thomas_out, PlainStep, step, rule_steps, steps_of}
+use Rattle.sigma_lower.proofs.Words.{Tensor, Blocks, Columns, Path, count_of, Rule, Gt, Ct, Split, Dim, Layout, work}
+use Rattle.sigma_lower.proofs.Words.{by, layout_size, right_path, left_path, whole_path}
 
 -- ---- steps
 
@@ -27,8 +18,7 @@ rule-behind front Gt path r s w left right =
     let last = step path (thomas_out r s) ∷ [] in
     ap (λ ss. step (front ++ path) (thomas_in r s) ∷ ss) (ap (λ ss. map (behind front) right ++ ss) (sym (map-append (behind front) left last)) ∙ sym (map-append (behind front) right (left ++ last)))
 rule-behind front Ct path r s w left right = ap (λ ss. step (front ++ path) (turns r s) ∷ ss) (sym (map-append (behind front) right (step path (twiddles r s w) ∷ left)))
-rule-behind front Split path r s w left right = sym (map-append (behind front) right left)
-rule-behind front Dim path r s w left right = sym (map-append (behind front) right left)
+rule-behind front _ path r s w left right = sym (map-append (behind front) right left)
 
 -- more tensors round a part are more tensors round its steps
 steps-append : (front path : Path) (l : Layout) → steps_of (front ++ path) l ≡ map (behind front) (steps_of path l)
@@ -56,10 +46,9 @@ append-step (s ∷ ss) ts h = tt
 
 rule-step : (rule : Rule) (path : Path) (r s w : ℕ) (left right : List PlainStep) → HasStep right →
     HasStep (rule_steps rule path r s w left right)
-rule-step Gt path r s w left right h = tt
-rule-step Ct path r s w left right h = tt
 rule-step Split path r s w left right h = append-step right left h
 rule-step Dim path r s w left right h = append-step right left h
+rule-step _ path r s w left right h = tt
 
 pub has_step : (path : Path) (l : Layout) → HasStep (steps_of path l)
 has_step path (work w) = tt

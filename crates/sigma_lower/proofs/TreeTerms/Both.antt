@@ -1,24 +1,14 @@
 -- All phases: their terms do what the formula for lanes does.
-use Rattle.std.proofs.Common.{◌≡◌, ℕ, Bool, true, false, refl, sym, ap, ap₂, ◌∙◌, List, [], ◌∷◌, ◌++◌}
-use Rattle.std.proofs.Common.{if◌then◌else◌}
-use Rattle.std.specs.Prelude.{map, ◌==◌}
-use Rattle.std.specs.List.{flat_map}
-use Rattle.std.proofs.lemmas.List.{map-append}
-use Rattle.sigma_lower.specs.TreeTerms.Good.{IsVecOf}
-use Rattle.sigma_lower.specs.TreeTerms.Term.{PlainTerm, lowered, factor_term, terms_on, terms_in, lowered_of, phases_on}
+use Rattle.sigma_lower.proofs.Words.{◌≡◌, ℕ, Bool, true, false, refl, sym, ap, ap₂, ◌∙◌, List, [], ◌∷◌, ◌++◌}
+use Rattle.sigma_lower.proofs.Words.{if◌then◌else◌, map, ◌==◌, flat_map, map-append, IsVecOf, PlainTerm, lowered}
+use Rattle.sigma_lower.proofs.Words.{factor_term, terms_in, lowered_of, factors_of, PlainStep, steps_of, Layout}
+use Rattle.sigma_lower.proofs.Words.{is_alone, Target, kept, vec_of, PlainVec, factor_step, cut, all_on, vec_steps}
+use Rattle.sigma_lower.proofs.Words.{one_proc, one_lane}
+use Rattle.sigma_lower.specs.TreeTerms.Term.{terms_on, phases_on}
 use Rattle.sigma_lower.proofs.TreeTerms.Goods.{vec_good, phases_good}
 use Rattle.sigma_lower.proofs.TreeTerms.Lowering.{factors_on}
-use Rattle.smp_rewrite.specs.Cut.{factors_of, cut}
 use Rattle.smp_rewrite.proofs.Factors.{cut-factors}
-use Rattle.smp_rewrite.specs.LayoutSteps.Meaning.{all_on}
-use Rattle.smp_rewrite.specs.LayoutSteps.Step.{PlainStep, steps_of}
 use Rattle.smp_rewrite.proofs.LayoutSteps.StepMeanings.{all_on-append}
-use Rattle.smp_rewrite.specs.LayoutSteps.Layout.{Layout}
-use Rattle.sigma_spl.specs.Shared.Targets.{is_alone}
-use Rattle.operators.specs.declared.target.Target.{Target}
-use Rattle.vec_rewrite.specs.Turning.{kept, vec_of}
-use Rattle.vec_rewrite.specs.Vectors.{PlainVec, factor_step, vec_steps}
-use Rattle.vec_rewrite.proofs.PlainSteps.{one_proc, one_lane}
 
 -- ---- one phase after the other
 

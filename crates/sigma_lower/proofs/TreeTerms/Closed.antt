@@ -1,15 +1,10 @@
 -- The functions of a good step's permutation take the places of the whole to places of it, and every number on the way fits 64 bits.
-use Rattle.std.proofs.Common.{ℕ, ◌*◌, ◌/◌, ◌%◌, ◌<◌, ◌≤◌, arith, [], ◌∷◌, mod-lt, div-lt_iff_lt-mul}
-use Rattle.std.proofs.Common.{mul-le-mul_left, le-mul_of_pos_right}
-use Rattle.std.proofs.Math.Nat.{div-add-mod'}
-use Rattle.std.proofs.lemmas.Nat.{mul-le, mul-lt}
-use Rattle.index_fn.specs.Mapping.{Mapping, ThomasIn, ThomasBack, at, IsDefinedAt}
-use Rattle.operators.proofs.Lists.{factor_positive}
-use Rattle.sigma_lower.specs.TreeTerms.Wrapped.{wrapped}
+use Rattle.sigma_lower.proofs.Words.{ℕ, ◌*◌, ◌/◌, ◌%◌, ◌<◌, ◌≤◌, arith, [], ◌∷◌, mod-lt, div-lt_iff_lt-mul}
+use Rattle.sigma_lower.proofs.Words.{mul-le-mul_left, le-mul_of_pos_right, div-add-mod', mul-le, mul-lt, Mapping}
+use Rattle.sigma_lower.proofs.Words.{ThomasIn, ThomasBack, at, factor_positive, wrapped, Blocks, Columns, Path}
+use Rattle.sigma_lower.proofs.Words.{size_under, le-times}
+use Rattle.index_fn.specs.Mapping.{IsDefinedAt}
 use Rattle.sigma_lower.proofs.TreeTerms.Permuted.{StaysBelow, wrapped-below}
-use Rattle.operators.specs.declared.tensor_paths.Tensor.TheVariants.{Blocks, Columns}
-use Rattle.operators.specs.TensorPaths.Path.{Path, size_under}
-use Rattle.sigma_spl.proofs.Fitting.{le-times}
 
 -- a function of the numbers below n
 pub record IsClosed (n : ℕ) (f : Mapping) : Type 0 where

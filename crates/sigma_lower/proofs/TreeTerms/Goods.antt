@@ -1,37 +1,20 @@
 -- The factors of an admissible tree are good: of the request's size, and with what their permutations need.
-use Rattle.std.proofs.Common.{◌≡◌, ℕ, ◌*◌, ◌/◌, ◌<◌, ◌≤◌, arith, refl, sym, ap, ◌∙◌, List, [], ◌∷◌}
-use Rattle.std.proofs.Common.{◌++◌, subst, mul_comm}
-use Rattle.std.specs.Prelude.{All, map, Option, None, Some, ◌==◌, take, drop}
-use Rattle.std.specs.List.{flat_map}
-use Rattle.std.proofs.lemmas.List.{map-append}
-use Rattle.std.proofs.lemmas.List.Elements.{All-nil, All-cons, All-head, All-tail, All-append, All-take, All-drop}
-use Rattle.smp_rewrite.specs.Cut.{whole_factor, cut_factors, factors_of, first_count, layout_smp}
-use Rattle.smp_rewrite.specs.Smp as smp
-use Rattle.smp_rewrite.specs.Smp.{within}
-use Rattle.smp_rewrite.proofs.Tensors.{size-within}
-use Rattle.smp_rewrite.specs.LayoutSteps.Meaning.{core_size}
-use Rattle.smp_rewrite.specs.LayoutSteps.Step.{PlainCore, piece, turns, twiddles, thomas_in, thomas_out, PlainStep}
-use Rattle.smp_rewrite.specs.LayoutSteps.Step.{step, steps_of}
-use Rattle.operators.specs.declared.tensor_paths.Tensor.TheVariants.{Blocks, Columns}
-use Rattle.operators.specs.TensorPaths.Path.{Path, size_under, copies_of}
-use Rattle.operators.proofs.TensorPaths.Under.{size_under-copies}
-use Rattle.sigma_spl.specs.Work.{PlainWork}
-use Rattle.smp_rewrite.specs.Fits.{CanShareLayout}
-use Rattle.smp_rewrite.specs.LayoutSteps.Layout.{Layout, IsGoodLayout}
-use Rattle.smp_rewrite.specs.LayoutSteps.Whole.{only}
-use Rattle.operators.specs.declared.target.Target.{Target}
-use Rattle.vec_rewrite.specs.declared.Deal.{Deal}
-use Rattle.vec_rewrite.specs.declared.Grid.{Grid}
-use Rattle.vec_rewrite.specs.Laws.{HasLanes}
-use Rattle.vec_rewrite.specs.Turning.{kept, settled, grouped, order_after, narrowed, block_factors, laned, laned_from}
-use Rattle.vec_rewrite.specs.Turning.{phase_of, deal_of, vec_of}
-use Rattle.vec_rewrite.specs.Vectors.{PlainFactor, lanes, diagonals, move_before, move_after, tiles, PlainVec}
-use Rattle.vec_rewrite.specs.Vectors.{factor_step, vec_steps}
-use Rattle.vec_rewrite.proofs.LaneShapes.{vec_shaped}
-use Rattle.sigma_lower.specs.TreeTerms.Good.{AreCoprime, IsGoodPiece, IsGoodCore, IsGood, AreGood, IsVecOf}
+use Rattle.sigma_lower.proofs.Words.{◌≡◌, ℕ, ◌*◌, ◌/◌, ◌<◌, ◌≤◌, arith, refl, sym, ap, ◌∙◌, List, [], ◌∷◌, ◌++◌, subst}
+use Rattle.sigma_lower.proofs.Words.{mul_comm, All, map, Option, None, Some, ◌==◌, take, drop, flat_map, map-append}
+use Rattle.sigma_lower.proofs.Words.{All-nil, All-cons, All-head, All-tail, factors_of, layout_smp, within, size-within}
+use Rattle.sigma_lower.proofs.Words.{core_size, PlainCore, piece, turns, twiddles, thomas_in, thomas_out, PlainStep}
+use Rattle.sigma_lower.proofs.Words.{step, steps_of, Blocks, Columns, Path, size_under, copies_of, size_under-copies}
+use Rattle.sigma_lower.proofs.Words.{PlainWork, CanShareLayout, Layout, IsGoodLayout, only, Target, Grid, HasLanes}
+use Rattle.sigma_lower.proofs.Words.{kept, laned, laned_from, vec_of, PlainFactor, lanes, diagonals, move_before}
+use Rattle.sigma_lower.proofs.Words.{move_after, PlainVec, factor_step, vec_shaped, AreCoprime, IsGoodPiece, IsGoodCore}
+use Rattle.sigma_lower.proofs.Words.{IsGood, AreGood, IsVecOf, right_positive, chosen, cut_factors, first_count, Deal}
+use Rattle.sigma_lower.proofs.Words.{settled, order_after, phase_of, vec_steps}
+use Rattle.std.proofs.lemmas.List.Elements.{All-append, All-take, All-drop}
+use Rattle.smp_rewrite.specs.Cut.{whole_factor}
+use Rattle.vec_rewrite.specs.Turning.{grouped, narrowed, block_factors, deal_of}
+use Rattle.vec_rewrite.specs.Vectors.{tiles}
 use Rattle.sigma_lower.proofs.TreeTerms.Lowering.{good_steps}
-use Rattle.sigma_spl.proofs.Keeps.{right_positive}
-use Rattle.sigma_spl.proofs.Walk.{chosen}
+use Rattle.smp_rewrite.specs.Smp as smp
 
 -- ---- what a core needs apart from its size, where that of a piece is said of its tree
 
@@ -43,22 +26,18 @@ IsApt Q (thomas_in r s) = AreCoprime r s
 IsApt Q (thomas_out r s) = AreCoprime r s
 
 apt-core : (k : PlainCore) → IsGoodCore k → IsApt IsGoodPiece k
-apt-core (piece t) h = h
 apt-core (turns r s) h = tt
 apt-core (twiddles r s w) h = tt
-apt-core (thomas_in r s) h = h
-apt-core (thomas_out r s) h = h
+apt-core _ h = h
 
 good-core : (path : Path) (k : PlainCore) (n : ℕ) → IsApt IsGoodPiece k → size_under path (core_size k) ≡ n → 0 < n →
     IsGoodCore k
-good-core path (piece t) n h e positive = h
 good-core path (turns r s) n h e positive =
     let whole : copies_of path * (r * s) ≡ n = sym (size_under-copies path (r * s)) ∙ e in
     let inside : 0 < r * s = right_positive (copies_of path) (r * s) (omega (arith, whole, positive)) in
     (right_positive s r (omega (arith, mul_comm s r, inside)), right_positive r s inside)
 good-core path (twiddles r s w) n h e positive = tt
-good-core path (thomas_in r s) n h e positive = h
-good-core path (thomas_out r s) n h e positive = h
+good-core path _ n h e positive = h
 
 apt-steps : (n : ℕ) (ss : List PlainStep) → AreGood n ss → All (λ s. IsApt IsGoodPiece s.core) ss
 apt-steps n [] h = All-nil (λ s. IsApt IsGoodPiece s.core)
@@ -85,28 +64,21 @@ module _ (Q : PlainWork → Type 0) where
 
   whole-apt : (path : Path) (k : PlainCore) → IsApt Q k → All (IsAptFactor Q) (whole_factor path k ∷ [])
   whole-apt path (piece t) h = apt-one (smp.blocks (step path (piece t))) h
-  whole-apt path (turns r s) h = apt-one (smp.move_before (step path (turns r s))) h
   whole-apt path (twiddles r s w) h = apt-one (smp.diagonals (step path (twiddles r s w))) h
-  whole-apt path (thomas_in r s) h = apt-one (smp.move_before (step path (thomas_in r s))) h
   whole-apt path (thomas_out r s) h = apt-one (smp.move_after (step path (thomas_out r s))) h
+  whole-apt path k h = apt-one (smp.move_before (step path k)) h
 
   cut-apt : (n p : ℕ) (path : Path) (k : PlainCore) → IsApt Q k → All (IsAptFactor Q) (cut_factors n p path k)
-  cut-apt n p [] (piece t) h = whole-apt [] (piece t) h
   cut-apt n p [] (turns r s) h =
       All-cons (IsAptFactor Q) (smp.move_before (step (within (Columns (r / p)) []) (turns p s))) (smp.blocks (step [] (turns (r / p) s)) ∷ []) tt (apt-one (smp.blocks (step [] (turns (r / p) s))) tt)
-  cut-apt n p [] (twiddles r s w) h = whole-apt [] (twiddles r s w) h
-  cut-apt n p [] (thomas_in r s) h = whole-apt [] (thomas_in r s) h
-  cut-apt n p [] (thomas_out r s) h = whole-apt [] (thomas_out r s) h
+  cut-apt n p [] k h = whole-apt [] k h
   cut-apt n p (Blocks r ∷ path) k h = apt-one (smp.blocks (step (within (Blocks (r / p)) path) k)) h
   cut-apt n p (Columns s ∷ path) (piece t) h =
       let before = smp.move_before (step (within (Columns (s / p)) []) (turns p (n / s))) in
       let middle = smp.blocks (step (within (Columns (s / p)) path) (piece t)) in
       let after = smp.move_after (step (within (Columns (s / p)) []) (turns (n / s) p)) in
       All-cons (IsAptFactor Q) before (middle ∷ after ∷ []) tt (All-cons (IsAptFactor Q) middle (after ∷ []) h (apt-one after tt))
-  cut-apt n p (Columns s ∷ path) (turns a b) h = whole-apt (Columns s ∷ path) (turns a b) h
-  cut-apt n p (Columns s ∷ path) (twiddles a b w) h = whole-apt (Columns s ∷ path) (twiddles a b w) h
-  cut-apt n p (Columns s ∷ path) (thomas_in a b) h = whole-apt (Columns s ∷ path) (thomas_in a b) h
-  cut-apt n p (Columns s ∷ path) (thomas_out a b) h = whole-apt (Columns s ∷ path) (thomas_out a b) h
+  cut-apt n p (Columns s ∷ path) k h = whole-apt (Columns s ∷ path) k h
 
   flat-apt : (n p : ℕ) (ss : List PlainStep) → All (λ s. IsApt Q s.core) ss →
       All (IsAptFactor Q) (flat_map (factors_of n p) ss)
@@ -144,20 +116,15 @@ module _ (Q : PlainWork → Type 0) where
 
   block-apt : (d : Deal) (o : Option Grid) (path : Path) (k : PlainCore) → IsApt Q k →
       All (IsAptLane Q) (block_factors d o path k)
-  block-apt d o [] (piece t) h = settled-then d o (lanes (step [] (piece t))) h
   block-apt d o [] (turns r s) h = settled-then d o (lanes (step [] (turns (r / d.lanes) s))) tt
   block-apt d o [] (twiddles r s w) h = settled-then d o (diagonals (step (within (Blocks d.procs) []) (twiddles r s w))) tt
-  block-apt d o [] (thomas_in r s) h = settled-then d o (lanes (step [] (thomas_in r s))) h
-  block-apt d o [] (thomas_out r s) h = settled-then d o (lanes (step [] (thomas_out r s))) h
+  block-apt d o [] k h = settled-then d o (lanes (step [] k)) h
   block-apt d o (Blocks r ∷ path) k h =
       let g : Grid = record { groups = r / d.lanes; tiles = d.block / r / d.lanes } in
       let lane = lanes (step (within (Blocks (r / d.lanes)) path) k) in
       All-append (IsAptLane Q) (grouped d o g) (lane ∷ []) (grouped-apt d o g) (lane-one lane h)
-  block-apt d o (Columns s ∷ path) (piece t) h = settled-then d o (lanes (narrowed d.lanes (Columns s ∷ path) (piece t))) h
-  block-apt d o (Columns s ∷ path) (turns a b) h = settled-then d o (lanes (narrowed d.lanes (Columns s ∷ path) (turns a b))) h
   block-apt d o (Columns s ∷ path) (twiddles a b w) h = settled-then d o (diagonals (step (within (Blocks d.procs) (Columns s ∷ path)) (twiddles a b w))) h
-  block-apt d o (Columns s ∷ path) (thomas_in a b) h = settled-then d o (lanes (narrowed d.lanes (Columns s ∷ path) (thomas_in a b))) h
-  block-apt d o (Columns s ∷ path) (thomas_out a b) h = settled-then d o (lanes (narrowed d.lanes (Columns s ∷ path) (thomas_out a b))) h
+  block-apt d o (Columns s ∷ path) k h = settled-then d o (lanes (narrowed d.lanes (Columns s ∷ path) k)) h
 
   laned-apt : (d : Deal) (o : Option Grid) (f : smp.PlainFactor) → IsAptFactor Q f → All (IsAptLane Q) (laned d o f)
   laned-apt d o (smp.blocks s) h = block-apt d o s.path s.core h
@@ -173,9 +140,7 @@ module _ (Q : PlainWork → Type 0) where
 
   kept-one : (f : smp.PlainFactor) → IsAptFactor Q f → IsAptLane Q (kept f)
   kept-one (smp.blocks s) h = h
-  kept-one (smp.diagonals s) h = h
-  kept-one (smp.move_before s) h = h
-  kept-one (smp.move_after s) h = h
+  kept-one _ h = h
 
   kept-apt : (fs : List smp.PlainFactor) → All (IsAptFactor Q) fs → All (IsAptLane Q) (map kept fs)
   kept-apt [] h = All-nil (IsAptLane Q)

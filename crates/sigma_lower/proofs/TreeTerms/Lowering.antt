@@ -1,42 +1,34 @@
 -- Each term does what its step does.
-use Rattle.std.proofs.Common.{◌≡◌, ℕ, zero, suc, ◌*◌, ◌%◌, ◌<◌, ◌≤◌, ◌+◌, ◌/◌, arith, refl, sym, ap, ap₂, ◌∙◌, List, []}
-use Rattle.std.proofs.Common.{◌∷◌, ◌++◌, mod-lt, subst, mul_comm, div-lt_iff_lt-mul, mul-le-mul_left, mul-le-mul_right}
-use Rattle.std.specs.Prelude.{map}
-use Rattle.std.proofs.Math.Nat.{zero-mod, mod-eq_of_lt, div-add-mod'}
-use Rattle.std.proofs.lemmas.List.FromFn.{fill_by_all}
-use Rattle.std.proofs.lemmas.Nat.{mul-lt, mul-mod_second}
-use Rattle.index_fn.specs.Mapping.{Strided, ThomasIn, ThomasOut, ThomasBack, at, IsUnit}
+use Rattle.sigma_lower.proofs.Words.{◌≡◌, ℕ, zero, suc, ◌*◌, ◌%◌, ◌<◌, ◌≤◌, ◌+◌, ◌/◌, arith, refl, sym, ap, ap₂, ◌∙◌}
+use Rattle.sigma_lower.proofs.Words.{List, [], ◌∷◌, ◌++◌, mod-lt, subst, mul_comm, div-lt_iff_lt-mul, mul-le-mul_left}
+use Rattle.sigma_lower.proofs.Words.{map, div-add-mod', fill_by_all, mul-lt, Strided, ThomasIn, ThomasOut, ThomasBack}
+use Rattle.sigma_lower.proofs.Words.{at, IsPermutationBelow, gather, scale, stride, at-list_below, place_below, row-of}
+use Rattle.sigma_lower.proofs.Words.{column-of, factor_positive, PlainWork, kernel, rows, tile, work_size, work_on}
+use Rattle.sigma_lower.proofs.Words.{trees_of, trees_size, Layout, work, by, layout_size, IsGoodWork, IsGoodLayout}
+use Rattle.sigma_lower.proofs.Words.{Target, core_size, step_on, PlainCore, piece, turns, twiddles, thomas_in}
+use Rattle.sigma_lower.proofs.Words.{thomas_out, PlainStep, rule_steps, steps_of, Blocks, Columns, Path, size_under}
+use Rattle.sigma_lower.proofs.Words.{under, place, size_under-push, Rule, Gt, Ct, PlainFactor, move_after, factor_step}
+use Rattle.sigma_lower.proofs.Words.{nest, lowered_core, factor_term, wrapped, unit_of, stride_below, AreInverses}
+use Rattle.sigma_lower.proofs.Words.{inverse_of_s, inverse_of_r, inverses_of, PlainTrees, single, tensor, core_on}
+use Rattle.sigma_lower.proofs.Words.{all_on, under-size, after_core}
+use Rattle.std.proofs.Common.{mul-le-mul_right}
+use Rattle.std.proofs.Math.Nat.{zero-mod, mod-eq_of_lt}
+use Rattle.std.proofs.lemmas.Nat.{mul-mod_second}
+use Rattle.index_fn.specs.Mapping.{IsUnit}
 use Rattle.index_fn.proofs.Thomas.{thomas_out_undoes, unit_from}
-use Rattle.operators.specs.Loop.{scatter, IsPermutationBelow}
-use Rattle.operators.specs.Operator.{gather, scale, stride}
-use Rattle.operators.proofs.Lists.{at-list_below, place_below, row-of, column-of, factor_positive}
-use Rattle.operators.proofs.Places.{stride_below}
+use Rattle.operators.specs.Loop.{scatter}
 use Rattle.operators.proofs.Scatters.{gather_as_scatter}
-use Rattle.ring_mod.proofs.Inverses.{AreInverses, inverse_of_s, inverse_of_r, inverses_of}
 use Rattle.tree_model.specs.KernelCosts.{CanMake}
-use Rattle.sigma_spl.specs.Work.{PlainWork, kernel, rows, horner, tile, copy, work_size, work_on, trees_of}
-use Rattle.tree_model.specs.Trees.{PlainTrees, single, tensor, trees_size, AreWords}
-use Rattle.smp_rewrite.specs.LayoutSteps.Layout.{Layout, work, by, layout_size, IsGoodWork, IsGoodRule, IsGoodLayout}
-use Rattle.operators.specs.declared.target.Target.{Target}
+use Rattle.tree_model.specs.Trees.{AreWords}
+use Rattle.smp_rewrite.specs.LayoutSteps.Layout.{IsGoodRule}
 use Rattle.smp_rewrite.proofs.Cores.{core-reads, core-gives}
-use Rattle.smp_rewrite.specs.LayoutSteps.Meaning.{core_size, core_on, step_on, all_on}
-use Rattle.smp_rewrite.specs.LayoutSteps.Step.{PlainCore, piece, turns, twiddles, thomas_in, thomas_out, PlainStep}
-use Rattle.smp_rewrite.specs.LayoutSteps.Step.{rule_steps, steps_of}
-use Rattle.tree_model.proofs.Sizes.{word_sizes}
-use Rattle.operators.specs.declared.tensor_paths.Tensor.TheVariants.{Blocks, Columns}
+use Rattle.tree_model.proofs.Sizes.{word_sizes, one_le_size_of}
 use Rattle.operators.specs.TensorPaths.Loop.{loop_on}
-use Rattle.operators.specs.TensorPaths.Path.{Path, size_under, under, place}
-use Rattle.operators.proofs.TensorPaths.Under.{size_under-push, under-size}
 use Rattle.operators.proofs.TensorPaths.PathLoops.{loop_is_under}
-use Rattle.tree_model.specs.declared.tree.Rule.{Rule}
-use Rattle.tree_model.specs.declared.tree.Rule.TheVariants.{Gt, Ct, Split, Dim}
 use Rattle.tree_model.specs.Breakdown.{size_of}
-use Rattle.tree_model.proofs.Sizes.{one_le_size_of}
-use Rattle.vec_rewrite.specs.Vectors.{PlainFactor, lanes, diagonals, move_before, move_after, tiles, factor_step}
+use Rattle.vec_rewrite.specs.Vectors.{tiles}
 use Rattle.kernel_gen.proofs.KernelSizes.{trees-positive}
-use Rattle.sigma_lower.specs.TreeTerms.Term.{nest, lowered_core, after_core, factor_term, term_on, terms_on}
-use Rattle.sigma_lower.specs.TreeTerms.Term.{diagonal_at}
-use Rattle.sigma_lower.specs.TreeTerms.Wrapped.{wrapped, unit_of}
+use Rattle.sigma_lower.specs.TreeTerms.Term.{term_on, terms_on, diagonal_at}
 use Rattle.sigma_lower.proofs.TreeTerms.Permuted.{StaysBelow, gather-under, scale-under, wrapped-permutes}
 use Rattle.sigma_lower.proofs.TreeTerms.Sizes.{within_whole}
 -- ---- the steps of a layout are good: of the size of the whole, and with the factors that their permutations need
@@ -60,8 +52,7 @@ good_rule n Ct path r s w left right e good on_left on_right =
     let h : 2 ≤ r = good.left in
     let g : 2 ≤ s = good.right in
     (record { size = e; core = (omega (arith, h), omega (arith, g)) }, good-append n right _ on_right (record { size = e; core = tt }, on_left))
-good_rule n Split path r s w left right e good on_left on_right = good-append n right left on_right on_left
-good_rule n Dim path r s w left right e good on_left on_right = good-append n right left on_right on_left
+good_rule n _ path r s w left right e good on_left on_right = good-append n right left on_right on_left
 
 -- trees that can be made, of few items, have words for sizes
 trees-words : (m : ℕ) (trees : PlainTrees) → CanMake m trees → trees_size trees ≤ 1048576 → AreWords trees
@@ -76,9 +67,7 @@ trees-words m (tensor kind root t others) h small =
 work-words : (m : ℕ) (w : PlainWork) → IsGoodWork m w → work_size w ≤ 1048576 → IsGoodPiece w
 work-words m (kernel k) h small = trees-words m (trees_of k) h.trees small
 work-words m (rows root size) h small = tt
-work-words m (horner root size) h small = absurd h
-work-words m (tile v) h small = absurd h
-work-words m (copy size) h small = absurd h
+work-words m _ h small = absurd h
 
 pub good_steps : (m n : ℕ) (path : Path) (l : Layout) → 1 ≤ n → n ≤ 1048576 → IsGoodLayout m l →
     size_under path (layout_size l) ≡ n → AreGood n (steps_of path l)
@@ -95,21 +84,23 @@ good_steps m n path (by rule root a b) some high h e =
 pub units_of : (r s u : ℕ) → 0 < r → 0 < s → (s * u) % r ≡ 1 % r → IsUnit r s (unit_of r s)
 units_of r s u h g e = unit_from r s r (u % r) (omega arith) (omega arith) (mod-lt u h) (mul-mod_second s u r ∙ e)
 
+pub both_units : (r s : ℕ) → AreCoprime r s → IsUnit r s (unit_of r s) × IsUnit s r (unit_of s r)
+both_units r s h = from_inverses (inverses_of r s h.left h.gcd)
+  where
+    from_inverses : (u : ℕ) × (v : ℕ) × AreInverses r s u v → IsUnit r s (unit_of r s) × IsUnit s r (unit_of s r)
+    from_inverses (u, v, both) = (units_of r s u h.left h.right (inverse_of_s r s u v both), units_of s r v h.right h.left (inverse_of_r r s u v both))
+
 pub thomas_permutes : (r s : ℕ) → AreCoprime r s → IsPermutationBelow (r * s) (at (ThomasOut r s))
     (at (ThomasBack r s (unit_of r s) (unit_of s r)))
-thomas_permutes r s h = from_inverses (inverses_of r s h.left h.gcd)
-  where
-    from_inverses : (u : ℕ) × (v : ℕ) × AreInverses r s u v →
-        IsPermutationBelow (r * s) (at (ThomasOut r s)) (at (ThomasBack r s (unit_of r s) (unit_of s r)))
-    from_inverses (u, v, both) =
-        let undoes = thomas_out_undoes r s (unit_of r s) (unit_of s r) (omega (arith, h.left)) (omega (arith, h.right)) (omega (arith, h.small))
-        (units_of r s u h.left h.right (inverse_of_s r s u v both)) (units_of s r v h.right h.left (inverse_of_r r s u v both)) in
-        record {
-          there_below = λ i below. place_below (i % r) (i % s) r s (mod-lt i h.left) (mod-lt i h.right);
-          back_below = undoes.permutes.below;
-          back-there = undoes.undoes;
-          there-back = undoes.undone;
-        }
+thomas_permutes r s h =
+    let units = both_units r s h in
+    let undoes = thomas_out_undoes r s (unit_of r s) (unit_of s r) (omega (arith, h.left)) (omega (arith, h.right)) (omega (arith, h.small)) units.0 units.1 in
+    record {
+      there_below = λ i below. place_below (i % r) (i % s) r s (mod-lt i h.left) (mod-lt i h.right);
+      back_below = undoes.permutes.below;
+      back-there = undoes.undoes;
+      there-back = undoes.undone;
+    }
 
 -- a unit of a size that is at least 2 is not 0
 one-positive : (r e : ℕ) → 2 ≤ r → e % r ≡ 1 % r → 0 < e
@@ -119,27 +110,14 @@ one-positive r zero h e =
 one-positive r (suc e) h _ = omega arith
 
 pub unit_positive : (r s : ℕ) → AreCoprime r s → 2 ≤ r → 2 ≤ s → (0 < unit_of r s) × (0 < unit_of s r)
-unit_positive r s h two_r two_s = from_inverses (inverses_of r s h.left h.gcd)
-  where
-    from_inverses : (u : ℕ) × (v : ℕ) × AreInverses r s u v → (0 < unit_of r s) × (0 < unit_of s r)
-    from_inverses (u, v, both) =
-        let a = units_of r s u h.left h.right (inverse_of_s r s u v both) in
-        let b = units_of s r v h.right h.left (inverse_of_r r s u v both) in
-        (one-positive r (unit_of r s) two_r a.one, one-positive s (unit_of s r) two_s b.one)
-
-pub both_units : (r s : ℕ) → AreCoprime r s → IsUnit r s (unit_of r s) × IsUnit s r (unit_of s r)
-both_units r s h = from_inverses (inverses_of r s h.left h.gcd)
-  where
-    from_inverses : (u : ℕ) × (v : ℕ) × AreInverses r s u v → IsUnit r s (unit_of r s) × IsUnit s r (unit_of s r)
-    from_inverses (u, v, both) = (units_of r s u h.left h.right (inverse_of_s r s u v both), units_of s r v h.right h.left (inverse_of_r r s u v both))
+unit_positive r s h two_r two_s =
+    let units = both_units r s h in
+    (one-positive r (unit_of r s) two_r units.0.one, one-positive s (unit_of s r) two_s units.1.one)
 
 pub unit_small : (r s : ℕ) → AreCoprime r s → (unit_of r s < r * s) × (unit_of s r < r * s)
-unit_small r s h = from_inverses (inverses_of r s h.left h.gcd)
-  where
-    from_inverses : (u : ℕ) × (v : ℕ) × AreInverses r s u v → (unit_of r s < r * s) × (unit_of s r < r * s)
-    from_inverses (u, v, both) =
-        let a = units_of r s u h.left h.right (inverse_of_s r s u v both) in
-        let b = units_of s r v h.right h.left (inverse_of_r r s u v both) in (a.below, subst (λ n. unit_of s r < n) (mul_comm s r) b.below)
+unit_small r s h =
+    let units = both_units r s h in
+    (units.0.below, subst (λ n. unit_of s r < n) (mul_comm s r) units.1.below)
 
 -- ---- each term
 
@@ -195,23 +173,18 @@ lowered_core_on h path (thomas_out r s) x e g =
 after_core_on : (h : Target) (path : Path) (k : PlainCore) (x : List ℕ) → size_under path (core_size k) ≡ h.size →
     IsGoodCore k →
     term_on h (after_core path k) x ≡ under path (core_size k) (core_on h.modulus k) x
-after_core_on h path (piece w) x e g = lowered_core_on h path (piece w) x e g
 after_core_on h path (turns r s) x e g =
     ap (λ n. scatter n n (at (wrapped path (r * s) (Strided s r))) x) (sym e)
     ∙ sym (gather_as_scatter (size_under path (r * s)) _ _ x (wrapped-permutes path (r * s) (Strided r s) (Strided s r) (turns-permute r s)))
     ∙ sym (gather-under path (r * s) (Strided r s) x (turns_below r s))
-after_core_on h path (twiddles r s w) x e g = lowered_core_on h path (twiddles r s w) x e g
-after_core_on h path (thomas_in r s) x e g = lowered_core_on h path (thomas_in r s) x e g
-after_core_on h path (thomas_out r s) x e g = lowered_core_on h path (thomas_out r s) x e g
+after_core_on h path k x e g = lowered_core_on h path k x e g
 
 -- the term of a factor does what its step does
 pub factor_on : (h : Target) (p v : ℕ) (f : PlainFactor) (x : List ℕ) → IsGood h.size (factor_step p v f) →
     term_on h (factor_term p v f) x ≡ step_on h.modulus (factor_step p v f) x
-factor_on h p v (lanes s) x g = lowered_core_on h (factor_step p v (lanes s)).path s.core x g.size g.core
-factor_on h p v (diagonals s) x g = lowered_core_on h s.path s.core x g.size g.core
-factor_on h p v (move_before s) x g = lowered_core_on h (factor_step p v (move_before s)).path s.core x g.size g.core
 factor_on h p v (move_after s) x g = after_core_on h (factor_step p v (move_after s)).path s.core x g.size g.core
 factor_on h p v (tiles path) x g = nest_on h (factor_step p v (tiles path)).path (tile v) x g.size
+factor_on h p v f x g = lowered_core_on h (factor_step p v f).path (factor_step p v f).core x g.size g.core
 
 pub factors_on : (h : Target) (p v : ℕ) (fs : List PlainFactor) (x : List ℕ) →
     AreGood h.size (map (factor_step p v) fs) → terms_on h (map (factor_term p v) fs) x

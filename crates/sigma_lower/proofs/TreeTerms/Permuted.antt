@@ -1,17 +1,11 @@
 -- Gathers and diagonals under tensors.
-use Rattle.std.proofs.Common.{◌≡◌, ℕ, ◌+◌, ◌*◌, ◌/◌, ◌%◌, ◌<◌, arith, refl, sym, ap, ap₂, ◌∙◌, List, [], ◌∷◌, mod-lt}
-use Rattle.std.proofs.Common.{div-lt_iff_lt-mul}
-use Rattle.std.specs.Prelude.{slice_index}
-use Rattle.std.proofs.Math.Nat.{div-add-mod'}
-use Rattle.index_fn.specs.Mapping.{Mapping, at}
-use Rattle.operators.specs.Loop.{IsPermutationBelow}
-use Rattle.operators.specs.Operator.{gather, scale, on_columns, on_blocks, column, block}
-use Rattle.operators.proofs.Lists.{at-list_below, list_below-same, list_below-same_rows, row-of, column-of, place_below}
-use Rattle.operators.proofs.Lists.{factor_positive, on_columns-same, on_blocks-same}
+use Rattle.sigma_lower.proofs.Words.{◌≡◌, ℕ, ◌+◌, ◌*◌, ◌/◌, ◌%◌, ◌<◌, arith, refl, sym, ap, ap₂, ◌∙◌, List, [], ◌∷◌}
+use Rattle.sigma_lower.proofs.Words.{mod-lt, div-lt_iff_lt-mul, slice_index, div-add-mod', Mapping, at}
+use Rattle.sigma_lower.proofs.Words.{IsPermutationBelow, gather, scale, on_columns, on_blocks, column, at-list_below}
+use Rattle.sigma_lower.proofs.Words.{list_below-same, row-of, column-of, place_below, factor_positive, Blocks, Columns}
+use Rattle.sigma_lower.proofs.Words.{Path, size_under, under, wrapped, inner_of, block}
+use Rattle.operators.proofs.Lists.{list_below-same_rows, on_columns-same, on_blocks-same}
 use Rattle.operators.proofs.Places.{column_at, block_at}
-use Rattle.operators.specs.declared.tensor_paths.Tensor.TheVariants.{Blocks, Columns}
-use Rattle.operators.specs.TensorPaths.Path.{Path, size_under, under}
-use Rattle.sigma_lower.specs.TreeTerms.Wrapped.{wrapped, inner_of}
 
 -- f stays below n
 abbrev pub StaysBelow : ℕ → (ℕ → ℕ) → Type 0

@@ -1,24 +1,15 @@
 -- The terms of the steps of a root of r * s, as its processors and lanes cut them.
-use Rattle.std.proofs.Common.{◌≡◌, ◌≢◌, ℕ, ◌*◌, ◌/◌, refl, sym, ap, ap₂, ◌∙◌, List, [], ◌∷◌, ◌++◌, if◌then◌else◌}
-use Rattle.std.specs.Prelude.{map, Option, None, Some}
-use Rattle.index_fn.specs.Mapping.{Strided, ThomasIn, ThomasBack}
-use Rattle.smp_rewrite.specs.Cut.{cut_factors, factors_of}
-use Rattle.smp_rewrite.specs.Smp as smp
-use Rattle.smp_rewrite.specs.Smp.{within}
-use Rattle.smp_rewrite.specs.LayoutSteps.Step.{PlainCore, piece, turns, twiddles, thomas_in, thomas_out, PlainStep}
-use Rattle.smp_rewrite.specs.LayoutSteps.Step.{step}
-use Rattle.operators.specs.declared.tensor_paths.Tensor.TheVariants.{Blocks, Columns}
-use Rattle.operators.specs.TensorPaths.Path.{Path}
-use Rattle.sigma_spl.specs.Work.{PlainWork, tile}
-use Rattle.vec_rewrite.specs.declared.Deal.{Deal}
-use Rattle.vec_rewrite.specs.declared.Grid.{Grid}
-use Rattle.vec_rewrite.specs.Turning.{kept, settled, order_after, laned, laned_from}
-use Rattle.sigma_lower.specs.TreeTerms.Root.{right_path, left_path, whole_path, lines_moved, vectors_turned, turned_in}
-use Rattle.sigma_lower.specs.TreeTerms.Root.{tiled_before, tiled_after, left_piece, left_core}
-use Rattle.sigma_lower.specs.TreeTerms.Term.{PlainTerm, gath, scat, diag, nest, lowered_core, factor_term}
-use Rattle.sigma_lower.specs.TreeTerms.Wrapped.{wrapped, unit_of}
+use Rattle.sigma_lower.proofs.Words.{◌≡◌, ◌≢◌, ℕ, ◌*◌, ◌/◌, refl, sym, ap, ap₂, ◌∙◌, List, [], ◌∷◌, ◌++◌, if◌then◌else◌}
+use Rattle.sigma_lower.proofs.Words.{map, Option, None, Some, Strided, ThomasIn, ThomasBack, factors_of, within}
+use Rattle.sigma_lower.proofs.Words.{PlainCore, piece, turns, twiddles, thomas_in, thomas_out, PlainStep, step, Blocks}
+use Rattle.sigma_lower.proofs.Words.{Columns, Path, PlainWork, tile, Grid, kept, laned, laned_from, right_path}
+use Rattle.sigma_lower.proofs.Words.{left_path, whole_path, lines_moved, vectors_turned, turned_in, tiled_before}
+use Rattle.sigma_lower.proofs.Words.{tiled_after, left_core, PlainTerm, gath, scat, diag, nest, lowered_core}
+use Rattle.sigma_lower.proofs.Words.{factor_term, wrapped, unit_of, unequal, cut_factors, Deal, settled, order_after}
+use Rattle.sigma_lower.proofs.Words.{within-wide}
+use Rattle.sigma_lower.specs.TreeTerms.Root.{left_piece}
 use Rattle.sigma_lower.proofs.TreeTerms.Behind.{right-behind, left-behind, whole-behind, by-one}
-use Rattle.vec_rewrite.proofs.StepFollows.{within-wide, unequal}
+use Rattle.smp_rewrite.specs.Smp as smp
 
 -- What is left of a phase, where the words may lie in groups, begins with these terms. Steps of the right part leave the words in the groups, and all others in their own order.
 pub record Cuts (cut : PlainStep → List smp.PlainFactor) (from : Option Grid → List smp.PlainFactor → List PlainTerm) (grid : Grid) (p v r s : ℕ) : Type 0 where
@@ -189,10 +180,7 @@ column-settles : (d : Deal) (o : Option Grid) (s : ℕ) (path : Path) (core : Pl
     laned d o (smp.blocks (step (Columns s ∷ path) core)) ≡ settled d o
     ++ laned d None (smp.blocks (step (Columns s ∷ path) core))
 column-settles d o s path (piece t) = refl
-column-settles d o s path (turns a b) = refl
-column-settles d o s path (twiddles a b w) = refl
-column-settles d o s path (thomas_in a b) = refl
-column-settles d o s path (thomas_out a b) = refl
+column-settles d o s path _ = refl
 
 alone-left : (b v r s : ℕ) (path : Path) (core : PlainCore) (fs : List smp.PlainFactor) →
     laned_terms 1 b v None (smp.blocks (step (Columns s ∷ path) core) ∷ fs) ≡ left_core 1 v r s path core

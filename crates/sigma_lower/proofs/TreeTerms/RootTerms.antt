@@ -1,37 +1,23 @@
 -- The terms of a layout that is shared, from its root.
-use Rattle.std.proofs.Common.{◌≡◌, ◌≢◌, ℕ, suc, ◌*◌, ◌/◌, ◌%◌, ◌<◌, ◌≤◌, false, arith, refl, sym, ap, ap₂, ◌∙◌}
-use Rattle.std.proofs.Common.{List, [], ◌∷◌, ◌++◌, if◌then◌else◌, inl, inr, subst, append-nil, append_assoc}
-use Rattle.std.specs.Prelude.{map, Option, None, Some, ◌==◌, take, drop, length}
-use Rattle.std.specs.List.{flat_map}
-use Rattle.std.proofs.Math.Nat.{mul-div_right, mod-eq_of_lt}
+use Rattle.sigma_lower.proofs.Words.{◌≡◌, ◌≢◌, ℕ, suc, ◌*◌, ◌/◌, ◌%◌, ◌<◌, ◌≤◌, false, arith, refl, sym, ap, ap₂, ◌∙◌}
+use Rattle.sigma_lower.proofs.Words.{List, [], ◌∷◌, ◌++◌, if◌then◌else◌, inl, inr, subst, append-nil, append_assoc, map}
+use Rattle.sigma_lower.proofs.Words.{Option, None, Some, ◌==◌, take, drop, length, flat_map, mul-div_right, cases_eq}
+use Rattle.sigma_lower.proofs.Words.{nat_tests, map-append, factor_positive, factors_of, turns, twiddles, PlainStep}
+use Rattle.sigma_lower.proofs.Words.{step, rule_steps, steps_of, Blocks, Columns, Rule, Gt, Ct, Split, Dim, HasParts}
+use Rattle.sigma_lower.proofs.Words.{RuleHasParts, RootHasParts, CanShareLayout, Layout, work, by, layout_size}
+use Rattle.sigma_lower.proofs.Words.{IsGoodLayout, is_alone, Target, Grid, kept, laned_from, vec_of, right_path}
+use Rattle.sigma_lower.proofs.Words.{turned_in, tiled_before, tiled_after, left_core, left_terms, right_terms}
+use Rattle.sigma_lower.proofs.Words.{root_terms, PlainTerm, diag, lowered, factor_term, terms_in, lowered_of, unequal}
+use Rattle.sigma_lower.proofs.Words.{flat_map-append, first_count, cut, IsDealt, is_dealt, phase_of, in_phases}
+use Rattle.std.proofs.Math.Nat.{mod-eq_of_lt}
 use Rattle.std.proofs.Math.Seq.{take-length, drop-length, take-append_seam, drop-append_seam}
-use Rattle.std.proofs.lemmas.Bool.{cases_eq}
-use Rattle.std.proofs.lemmas.Bool.Decides.{nat_tests}
-use Rattle.std.proofs.lemmas.Grind.{flat_map-append}
-use Rattle.std.proofs.lemmas.List.{map-append}
-use Rattle.operators.proofs.Lists.{factor_positive}
-use Rattle.smp_rewrite.specs.Cut.{factors_of, is_left, right_count, first_count, cut}
-use Rattle.smp_rewrite.specs.Smp as smp
-use Rattle.smp_rewrite.proofs.Dealt.{IsDealt, is_dealt}
+use Rattle.smp_rewrite.specs.Cut.{is_left, right_count}
 use Rattle.smp_rewrite.proofs.Factors.{rows_of}
 use Rattle.smp_rewrite.proofs.Moves.{one_line}
-use Rattle.smp_rewrite.specs.LayoutSteps.Step.{turns, twiddles, PlainStep, step, rule_steps, steps_of}
-use Rattle.operators.specs.declared.tensor_paths.Tensor.TheVariants.{Blocks, Columns}
-use Rattle.tree_model.specs.declared.tree.Rule.{Rule}
-use Rattle.tree_model.specs.declared.tree.Rule.TheVariants.{Gt, Ct, Split, Dim}
-use Rattle.smp_rewrite.specs.Fits.{HasParts, RuleHasParts, RootHasParts, CanShareLayout}
-use Rattle.smp_rewrite.specs.LayoutSteps.Layout.{Layout, work, by, layout_size, IsGoodLayout}
-use Rattle.sigma_spl.specs.Shared.Targets.{is_alone}
-use Rattle.operators.specs.declared.target.Target.{Target}
-use Rattle.vec_rewrite.specs.declared.Grid.{Grid}
-use Rattle.vec_rewrite.specs.Turning.{kept, laned_from, phase_of, vec_of}
-use Rattle.sigma_lower.specs.TreeTerms.Root.{right_path, turned_in, tiled_before, tiled_after, left_core, left_terms}
-use Rattle.sigma_lower.specs.TreeTerms.Root.{right_terms, in_phases, root_terms}
-use Rattle.sigma_lower.specs.TreeTerms.Term.{PlainTerm, diag, lowered, factor_term, terms_in, lowered_of}
 use Rattle.sigma_lower.proofs.TreeTerms.Behind.{behind, steps-behind, HasStep, has_step, by-one}
 use Rattle.sigma_lower.proofs.TreeTerms.RootCuts.{Cuts, Rows, deal, grid_of, kept_from, laned_terms, kept_cuts}
 use Rattle.sigma_lower.proofs.TreeTerms.RootCuts.{alone_cuts, among_cuts}
-use Rattle.vec_rewrite.proofs.StepFollows.{unequal}
+use Rattle.smp_rewrite.specs.Smp as smp
 
 -- ---- lists of steps
 
@@ -55,15 +41,13 @@ right_all p v r es = map lowered (map (behind (right_path p v r)) es)
 abbrev rule_right : ℕ → ℕ → Rule → ℕ → ℕ → ℕ → List PlainStep → List PlainTerm
 rule_right p v Gt r s w es = []
 rule_right p v Ct r s w es = turned_in p v r s ++ (right_all p v r es ++ (tiled_after p v r s ++ diag [] r s w ∷ []))
-rule_right p v Split r s w es = tiled_before p v r s ++ (right_all p v r es ++ tiled_after p v r s)
-rule_right p v Dim r s w es = tiled_before p v r s ++ (right_all p v r es ++ tiled_after p v r s)
+rule_right p v _ r s w es = tiled_before p v r s ++ (right_all p v r es ++ tiled_after p v r s)
 
 -- the steps of the right part with what stands round it, before those of the left part
 abbrev rule_front : Rule → ℕ → ℕ → ℕ → List PlainStep → List PlainStep
 rule_front Gt r s w es = []
 rule_front Ct r s w es = step [] (turns r s) ∷ (rights r es ++ step [] (twiddles r s w) ∷ [])
-rule_front Split r s w es = rights r es
-rule_front Dim r s w es = rights r es
+rule_front _ r s w es = rights r es
 
 abbrev pub IsShared : Rule → Type 0
 IsShared Gt = ⊥
@@ -75,8 +59,7 @@ rule_parts : (rule : Rule) (r s w : ℕ) (es ls : List PlainStep) → IsShared r
     rule_steps rule [] r s w ls (rights r es) ≡ rule_front rule r s w es ++ ls
 rule_parts Gt r s w es ls h = absurd h
 rule_parts Ct r s w es ls h = ap (λ ss. step [] (turns r s) ∷ ss) (sym (append_assoc (rights r es) (step [] (twiddles r s w) ∷ []) ls))
-rule_parts Split r s w es ls h = refl
-rule_parts Dim r s w es ls h = refl
+rule_parts _ r s w es ls h = refl
 
 module _ (divide : Cutter) (from : Former) (g : Grid) (p v r s : ℕ) (cuts : Cuts divide from g p v r s) where
   rights-next : (es : List PlainStep) (fs : List smp.PlainFactor) →
@@ -143,8 +126,7 @@ module _ (divide : Cutter) (from : Former) (g : Grid) (p v r s : ℕ) (cuts : Cu
         ∙ sym (append_assoc (tiled_after p v r s) (diag [] r s w ∷ []) others))
         ∙ sym (append_assoc all after others))
         ∙ sym (append_assoc (turned_in p v r s) (all ++ after) others)
-    front-then Split shared = split-right
-    front-then Dim shared = split-right
+    front-then _ shared = split-right
 
   -- one phase for both parts
   both-terms : (w : ℕ) (rule : Rule) (es ls : List PlainStep) → IsShared rule → HasStep es → HasStep ls →
@@ -186,8 +168,7 @@ rights-right r (e ∷ es) rest h = (refl, rights-right r es rest h)
 front-right : (rule : Rule) (r s w : ℕ) (es : List PlainStep) → AreRight (rule_front rule r s w es)
 front-right Gt r s w es = tt
 front-right Ct r s w es = (refl, rights-right r es (step [] (twiddles r s w) ∷ []) (refl, tt))
-front-right Split r s w es = subst AreRight (append-nil (rights r es)) (rights-right r es [] tt)
-front-right Dim r s w es = subst AreRight (append-nil (rights r es)) (rights-right r es [] tt)
+front-right _ r s w es = subst AreRight (append-nil (rights r es)) (rights-right r es [] tt)
 
 count-left : (s : ℕ) (ls : List PlainStep) → right_count (lefts s ls) ≡ 0
 count-left s [] = refl
@@ -350,15 +331,11 @@ numbers_of h l r s shares product two_r two_s fits =
 
 pub rule-shared : (h : Target) (rule : Rule) (r s : ℕ) → RuleHasParts h rule r s → IsShared rule
 rule-shared h Gt r s k = k
-rule-shared h Ct r s k = tt
-rule-shared h Split r s k = tt
-rule-shared h Dim r s k = tt
+rule-shared h _ r s k = tt
 
 pub rule-fits : (h : Target) (rule : Rule) (r s : ℕ) → RuleHasParts h rule r s → HasParts h r s
 rule-fits h Gt r s k = absurd k
-rule-fits h Ct r s k = k
-rule-fits h Split r s k = k
-rule-fits h Dim r s k = k
+rule-fits h _ r s k = k
 
 right-same : (p v : ℕ) (rule : Rule) (w : ℕ) (a b : Layout) →
     rule_right p v rule (layout_size a) (layout_size b) w (steps_of [] b) ≡ right_terms p v rule w a b
@@ -366,14 +343,9 @@ right-same p v Gt w a b = refl
 right-same p v Ct w a b =
     let r = layout_size a in
     let s = layout_size b in ap (λ ss. turned_in p v r s ++ (map lowered ss ++ (tiled_after p v r s ++ diag [] r s w ∷ []))) (sym (steps-behind (right_path p v r) b))
-right-same p v Split w a b =
+right-same p v _ w a b =
     let r = layout_size a in
     let s = layout_size b in ap (λ ss. tiled_before p v r s ++ (map lowered ss ++ tiled_after p v r s)) (sym (steps-behind (right_path p v r) b))
-right-same p v Dim w a b =
-    let r = layout_size a in
-    let s = layout_size b in
-    ap (λ ss. tiled_before p v r s ++ (map lowered ss ++ tiled_after p v r s))
-    (sym (steps-behind (right_path p v r) b))
 
 -- the steps of a root
 root-steps : (rule : Rule) (w : ℕ) (a b : Layout) → IsShared rule →

@@ -1,11 +1,8 @@
 -- Sizes of matrices under the tensors of a path, and the room that they need.
-use Rattle.std.proofs.Common.{◌≡◌, ℕ, zero, suc, ◌*◌, ◌<◌, ◌≤◌, arith, sym, ap, ◌∙◌, [], ◌∷◌, mul_comm}
-use Rattle.std.proofs.Math.Nat.{suc-mul, zero-mul}
-use Rattle.sigma_spl.specs.Room.{HasRoom}
-use Rattle.operators.specs.declared.tensor_paths.Tensor.TheVariants.{Blocks, Columns}
-use Rattle.operators.specs.TensorPaths.Path.{Path, size_under, copies_of}
-use Rattle.operators.proofs.TensorPaths.Under.{size_under-copies}
-use Rattle.sigma_spl.proofs.Keeps.{right_positive}
+use Rattle.sigma_lower.proofs.Words.{◌≡◌, ℕ, zero, suc, ◌*◌, ◌<◌, ◌≤◌, arith, sym, ap, ◌∙◌, [], ◌∷◌, mul_comm, zero-mul}
+use Rattle.sigma_lower.proofs.Words.{Blocks, Columns, Path, size_under, copies_of, size_under-copies, right_positive}
+use Rattle.sigma_lower.proofs.Words.{HasRoom}
+use Rattle.std.proofs.Math.Nat.{suc-mul}
 
 -- a part is at most the whole
 pub part-le : (q d n : ℕ) → q * d ≡ n → 1 ≤ n → d ≤ n

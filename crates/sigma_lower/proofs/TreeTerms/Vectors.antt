@@ -1,17 +1,10 @@
 -- Functions that keep vectors: v words side by side, from a multiple of v on, stay so. Under tensors they do where the
 -- first columns are a multiple of v.
-use Rattle.std.proofs.Common.{◌≡◌, ℕ, ◌+◌, ◌*◌, ◌/◌, ◌%◌, ◌<◌, arith, sym, ap, ap₂, subst, ◌∙◌}
-use Rattle.std.proofs.Common.{[], ◌∷◌, ◌++◌, inl, inr, eq-zero-or-pos, mod-lt}
-use Rattle.std.specs.Prelude.{◌==◌}
-use Rattle.std.proofs.Math.Nat.{div-add-mod', div-zero, mod-zero, zero-mul}
-use Rattle.index_fn.specs.Mapping.{Mapping, at}
-use Rattle.operators.proofs.Lists.{row-of, column-of, place_below}
-use Rattle.sigma_lower.specs.TreeTerms.Wrapped.{wrapped}
-use Rattle.sigma_spl.proofs.Walk.{chosen}
-use Rattle.smp_rewrite.specs.Smp.{within}
-use Rattle.operators.specs.declared.tensor_paths.Tensor.TheVariants.{Blocks, Columns}
-use Rattle.operators.specs.TensorPaths.Path.{Path, size_under}
-use Rattle.smp_rewrite.proofs.Tensors.{is-one}
+use Rattle.sigma_lower.proofs.Words.{◌≡◌, ℕ, ◌+◌, ◌*◌, ◌/◌, ◌%◌, ◌<◌, arith, sym, ap, ap₂, subst, ◌∙◌, [], ◌∷◌, ◌++◌}
+use Rattle.sigma_lower.proofs.Words.{inl, inr, mod-lt, ◌==◌, div-add-mod', zero-mul, Mapping, at, row-of, column-of}
+use Rattle.sigma_lower.proofs.Words.{place_below, wrapped, chosen, within, Blocks, Columns, Path, size_under, is-one}
+use Rattle.std.proofs.Common.{eq-zero-or-pos}
+use Rattle.std.proofs.Math.Nat.{div-zero, mod-zero}
 
 -- ---- vectors in rows of m vectors
 

@@ -1,20 +1,14 @@
 -- The passes of a layout are framed.
-use Rattle.std.proofs.Common.{◌≡◌, ℕ, ◌*◌, ◌/◌, ◌%◌, ◌≤◌, Bool, true, false, arith, refl, sym, ap, ◌∙◌, List, [], ◌∷◌}
-use Rattle.std.proofs.Common.{◌++◌, if◌then◌else◌, subst, inl, inr, append-nil}
-use Rattle.std.specs.Prelude.{◌==◌, map}
-use Rattle.std.proofs.Math.Nat.{div-add-mod'}
-use Rattle.std.proofs.lemmas.Bool.{cases_eq}
-use Rattle.index_fn.specs.Mapping.{Mapping, Strided, ThomasIn, ThomasBack}
-use Rattle.operators.specs.declared.target.Target.{Target}
-use Rattle.sigma_lower.specs.TreeLoops.Merge.{PlainPass, Merging, merge_term, passes_of_terms, in_order}
-use Rattle.sigma_lower.specs.TreeLoops.Merge.{merged_of}
-use Rattle.sigma_lower.specs.TreeTerms.Root.{right_path, left_path, whole_path, tile_path, lines_moved, vectors_turned}
-use Rattle.sigma_lower.specs.TreeTerms.Root.{vectors_grouped, lines_dealt}
-use Rattle.sigma_lower.specs.TreeTerms.Root.{left_core, left_terms, right_terms, root_terms}
-use Rattle.sigma_lower.specs.TreeTerms.Term.{PlainTerm, gath, scat, diag, nest, lowered}
-use Rattle.sigma_spl.specs.Work.{PlainWork, tile}
-use Rattle.sigma_lower.specs.TreeTerms.Wrapped.{wrapped, unit_of}
-use Rattle.sigma_lower.specs.TreeLoops.SharedPasses.Shared.{AllFramed}
+use Rattle.sigma_lower.proofs.Words.{◌≡◌, ℕ, ◌*◌, ◌/◌, ◌%◌, ◌≤◌, Bool, true, false, arith, refl, sym, ap, ◌∙◌, List, []}
+use Rattle.sigma_lower.proofs.Words.{◌∷◌, ◌++◌, if◌then◌else◌, subst, inl, inr, append-nil, ◌==◌, map, div-add-mod'}
+use Rattle.sigma_lower.proofs.Words.{cases_eq, Mapping, Strided, ThomasIn, ThomasBack, Target, PlainPass, Merging}
+use Rattle.sigma_lower.proofs.Words.{merge_term, passes_of_terms, in_order, merged_of, right_path, left_path}
+use Rattle.sigma_lower.proofs.Words.{whole_path, tile_path, lines_moved, vectors_turned, vectors_grouped, lines_dealt}
+use Rattle.sigma_lower.proofs.Words.{left_core, left_terms, right_terms, root_terms, PlainTerm, gath, scat, diag, nest}
+use Rattle.sigma_lower.proofs.Words.{lowered, PlainWork, tile, wrapped, unit_of, AllFramed, within, steps_of, Blocks}
+use Rattle.sigma_lower.proofs.Words.{Columns, Path, size_under, HasParts, RootHasParts, CanShareLayout, Layout, work}
+use Rattle.sigma_lower.proofs.Words.{by, layout_size, IsGoodLayout, IsGoodWork, chosen, is_alone, lane_step, is-one}
+use Rattle.sigma_lower.proofs.Words.{blocks-within, one_proc, one_lane}
 use Rattle.sigma_lower.proofs.TreeLoops.SharedPasses.Lanes.{HasStep, Laned, all-framed, laned-gath, laned-scat}
 use Rattle.sigma_lower.proofs.TreeLoops.SharedPasses.Lanes.{laned-diag, laned-nest, laned-weaken, single-step}
 use Rattle.sigma_lower.proofs.TreeLoops.SharedPasses.Lanes.{vectors-step}
@@ -26,20 +20,9 @@ use Rattle.sigma_lower.proofs.TreeLoops.Walks.{right-law, settled, steps-law, ti
 use Rattle.sigma_lower.proofs.TreeLoops.SharedPasses.Naturals.{IsLoop, transform-loop, one-step, tile-loop}
 use Rattle.sigma_lower.proofs.TreeTerms.Vectors.{KeepsVectors, HasVectors, single-vectors, vectors-append}
 use Rattle.sigma_lower.proofs.TreeTerms.Vectors.{vectors-blocks, vectors-columns, keeps-wrapped}
-use Rattle.smp_rewrite.specs.Smp.{within}
-use Rattle.smp_rewrite.specs.LayoutSteps.Step.{steps_of}
-use Rattle.operators.specs.declared.tensor_paths.Tensor.TheVariants.{Blocks, Columns}
-use Rattle.operators.specs.TensorPaths.Path.{Path, size_under}
-use Rattle.smp_rewrite.specs.Fits.{HasParts, RootHasParts, CanShareLayout}
-use Rattle.smp_rewrite.specs.LayoutSteps.Layout.{Layout, work, by, layout_size, IsGoodLayout, IsGoodWork}
-use Rattle.sigma_spl.proofs.Walk.{chosen}
-use Rattle.sigma_spl.specs.Shared.Targets.{is_alone}
 use Rattle.sigma_lower.proofs.TreeTerms.Both.{plain_terms}
 use Rattle.sigma_lower.proofs.TreeTerms.RootTerms.{shared_terms, rule-fits, rule-shared}
-use Rattle.sigma_spl.specs.Shared.Machine.{lane_step}
-use Rattle.smp_rewrite.proofs.Tensors.{blocks-within, is-one}
 use Rattle.sigma_lower.proofs.TreeTerms.Behind.{within-append}
-use Rattle.vec_rewrite.proofs.PlainSteps.{one_proc, one_lane}
 
 -- ---- the law
 
@@ -55,11 +38,9 @@ FitsRoot c n w = HasStep c.lanes (lane_step w) [] n
 
 -- the last pass at a point
 abbrev LastAt : Target → ℕ → Point → PlainWork → Type 0
-LastAt c n begun = Whatever
-LastAt c n ready = Whatever
 LastAt c n done = Transforms
 LastAt c n tiled = FitsRoot c n
-LastAt c n settled = Whatever
+LastAt c n _ = Whatever
 
 abbrev LanedAt : Target → ℕ → Point → Merging → Type 0
 LanedAt c n i st = Laned c (LastAt c n i) st

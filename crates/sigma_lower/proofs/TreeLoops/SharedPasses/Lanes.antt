@@ -1,22 +1,52 @@
 -- Passes whose lanes are vectors, and what merging keeps of them.
-use Rattle.std.proofs.Common.{◌≡◌, ℕ, ◌+◌, ◌*◌, ◌<◌, arith, sym, ap, ◌∙◌, List, [], ◌∷◌, mul-zero, subst}
-use Rattle.std.specs.Prelude.{Some}
-use Rattle.std.proofs.Math.Nat.{zero-mul}
-use Rattle.index_fn.specs.Mapping.{Mapping, at}
-use Rattle.operators.specs.declared.target.Target.{Target}
-use Rattle.sigma_spl.specs.Shared.Machine.{item_of, values_of, lane_step}
-use Rattle.std.proofs.lemmas.Option.{none-some, same_Some}
-use Rattle.sigma_lower.specs.TreeLoops.Merge.{PlainDiagonal, PlainPass, Merging, through, new_pass, scattered}
-use Rattle.sigma_lower.specs.TreeLoops.Merge.{multiplied, merge_term}
-use Rattle.sigma_lower.specs.TreeTerms.Term.{gath, scat, diag, nest}
-use Rattle.sigma_spl.specs.Work.{PlainWork, work_size}
-use Rattle.sigma_lower.specs.TreeTerms.Wrapped.{inner_of}
-use Rattle.operators.specs.TensorPaths.Path.{Path, place}
-use Rattle.sigma_lower.specs.TreeLoops.SharedPasses.Shared.{IsFramed, AllFramed}
+use Rattle.sigma_lower.proofs.Words.{◌≡◌, ℕ, ◌+◌, ◌*◌, ◌<◌, arith, sym, ap, ◌∙◌, List, [], ◌∷◌, subst, Some, zero-mul}
+use Rattle.sigma_lower.proofs.Words.{Mapping, at, Target, item_of, values_of, lane_step, none-some, same_Some}
+use Rattle.sigma_lower.proofs.Words.{PlainDiagonal, PlainPass, Merging, through, new_pass, scattered, multiplied}
+use Rattle.sigma_lower.proofs.Words.{merge_term, gath, scat, diag, nest, PlainWork, work_size, inner_of, Path, place}
+use Rattle.sigma_lower.proofs.Words.{IsFramed, AllFramed, ◌/◌, ◌%◌, refl, ◌++◌, Blocks, Columns}
+use Rattle.std.proofs.Common.{mul-zero}
 use Rattle.sigma_lower.proofs.TreeLoops.SharedPasses.Merging.{Ends, ends-push, ends-last, ends-weaken}
 use Rattle.sigma_lower.proofs.TreeLoops.SharedPasses.Naturals.{IsLoop}
-use Rattle.sigma_lower.proofs.TreeLoops.SharedPasses.Vectors.{AllKeepVectors, keep-append, through-keeps, inner-vectors}
-use Rattle.sigma_lower.proofs.TreeTerms.Vectors.{KeepsVectors, HasVectors}
+use Rattle.sigma_lower.proofs.TreeTerms.Vectors.{KeepsVectors, HasVectors, apart, size-vectors}
+
+-- ---- gathers that keep vectors, one after the other, and what a path leaves of them
+
+abbrev pub AllKeepVectors : ℕ → List Mapping → Type 0
+AllKeepVectors v [] = Unit {0}
+AllKeepVectors v (f ∷ fs) = KeepsVectors v f × AllKeepVectors v fs
+
+pub keep-append : (v : ℕ) (fs : List Mapping) (f : Mapping) → AllKeepVectors v fs → KeepsVectors v f →
+    AllKeepVectors v (fs ++ f ∷ [])
+keep-append v [] f h k = (k, tt)
+keep-append v (g ∷ fs) f h k = (h.0, keep-append v fs f h.1 k)
+
+pub through-keeps : (v : ℕ) (fs : List Mapping) → AllKeepVectors v fs → (a : ℕ) →
+    (b : ℕ) × ((l : ℕ) → l < v → through fs (a * v + l) ≡ b * v + l)
+through-keeps v [] h a = (a, λ l below. refl)
+through-keeps v (f ∷ fs) h a =
+    let one = h.0 a in
+    let rest = through-keeps v fs h.1 one.0 in
+    (rest.0, λ l below. ap (through fs) (one.1 l below) ∙ rest.1 l below)
+
+-- the words of a vector are one item of their copies
+pub inner-vectors : (v : ℕ) (path : Path) (n a l : ℕ) → HasVectors v path → l < v →
+    at (inner_of path n) (a * v + l) ≡ at (inner_of path n) (a * v + 0)
+inner-vectors v [] n a l h below = omega (arith, h, below)
+inner-vectors v (Blocks k ∷ path) n a l h below =
+    let whole = size-vectors v path n h in
+    let g = inner_of path n in
+    let positive : 0 < v = omega (arith, below) in
+    ap (λ s. 0 * 0 + at g ((a * v + l) % s)) whole.1
+    ∙ ap (λ y. 0 * 0 + at g y) (apart a whole.0 v l below).column
+    ∙ ap (λ y. 0 * 0 + y) (inner-vectors v path n (a % whole.0) l h below)
+    ∙ ap (λ y. 0 * 0 + at g y) (sym (apart a whole.0 v 0 positive).column)
+    ∙ ap (λ s. 0 * 0 + at g ((a * v + 0) % s)) (sym whole.1)
+inner-vectors v (Columns k ∷ path) n a l h below =
+    let g = inner_of path n in
+    let positive : 0 < v = omega (arith, below) in
+    ap (λ s. at g ((a * v + l) / s) * 1 + 0) h.1
+    ∙ ap (λ y. at g y * 1 + 0) ((apart a h.0 v l below).row ∙ sym (apart a h.0 v 0 positive).row)
+    ∙ ap (λ s. at g ((a * v + 0) / s) * 1 + 0) (sym h.1)
 
 -- the entries of a diagonal for the words of a vector stand k apart
 abbrev pub HasStep : ℕ → ℕ → Path → ℕ → Type 0

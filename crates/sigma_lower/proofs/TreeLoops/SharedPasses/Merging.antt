@@ -1,6 +1,5 @@
 -- Passes that all have a property, and the last one another besides.
-use Rattle.std.proofs.Common.{List, [], ◌∷◌, ◌++◌}
-use Rattle.sigma_lower.specs.TreeLoops.Merge.{PlainPass, Merging, at_last}
+use Rattle.sigma_lower.proofs.Words.{List, [], ◌∷◌, ◌++◌, PlainPass, Merging, at_last}
 
 -- nothing is merged yet
 abbrev pub nothing : Merging

@@ -1,19 +1,10 @@
 -- The natural places of framed passes: the lanes of each register are a vector.
-use Rattle.std.proofs.Common.{◌≡◌, ℕ, ◌+◌, ◌*◌, ◌<◌, Bool, true, false, arith, refl, sym, ap, ap₂, ◌∙◌, List, [], ◌∷◌}
-use Rattle.std.proofs.Common.{◌++◌, if◌then◌else◌, subst}
-use Rattle.std.specs.Prelude.{◌==◌}
-use Rattle.operators.specs.declared.target.Target.{Target}
-use Rattle.sigma_spl.specs.Shared.Machine.{if_several, item_of, values_of, lane_step}
-use Rattle.sigma_lower.specs.TreeLoops.SharedPasses.Shared.{framed, HasLanes}
-use Rattle.sigma_spl.specs.Work.{PlainWork, kernel, rows, horner, tile, copy, work_size}
-use Rattle.smp_rewrite.specs.LayoutSteps.Layout.{IsGoodWork}
-use Rattle.smp_rewrite.specs.Smp.{within}
-use Rattle.smp_rewrite.proofs.Tensors.{size-within, is-one}
-use Rattle.operators.specs.declared.tensor_paths.Tensor.{Tensor}
-use Rattle.operators.specs.declared.tensor_paths.Tensor.TheVariants.{Blocks, Columns}
-use Rattle.operators.specs.TensorPaths.Path.{Path, count_of, size_under, copies_of, place}
-use Rattle.operators.proofs.TensorPaths.Under.{size_under-copies}
-use Rattle.sigma_spl.specs.Good.{AreBlocks}
+use Rattle.sigma_lower.proofs.Words.{◌≡◌, ℕ, ◌+◌, ◌*◌, ◌<◌, Bool, true, false, arith, refl, sym, ap, ap₂, ◌∙◌, List, []}
+use Rattle.sigma_lower.proofs.Words.{◌∷◌, ◌++◌, if◌then◌else◌, subst, ◌==◌, Target, item_of, values_of, lane_step}
+use Rattle.sigma_lower.proofs.Words.{PlainWork, kernel, rows, tile, work_size, IsGoodWork, within, size-within, is-one}
+use Rattle.sigma_lower.proofs.Words.{Tensor, Blocks, Columns, Path, count_of, size_under, copies_of, place}
+use Rattle.sigma_lower.proofs.Words.{size_under-copies, AreBlocks, if_several, framed}
+use Rattle.sigma_lower.specs.TreeLoops.SharedPasses.Shared.{HasLanes}
 
 -- ---- a tensor that may be left out
 
@@ -62,9 +53,7 @@ framed-loop : (m : ℕ) (c : Target) (w : PlainWork) (loops : Path) → IsGoodWo
     IsLoop c (within (Blocks c.procs) (within (Columns c.lanes) loops)) w
 framed-loop m c (kernel trees) loops good = record { loops = loops; form = refl; lanes = tt; vectors = λ vs q k below. lane-vectors c (work_size (kernel trees)) loops vs q k below }
 framed-loop m c (rows root size) loops good = record { loops = loops; form = refl; lanes = tt; vectors = λ vs q k below. lane-vectors c size loops vs q k below }
-framed-loop m c (horner root size) loops good = absurd good
-framed-loop m c (tile v) loops good = absurd good
-framed-loop m c (copy size) loops good = absurd good
+framed-loop m c _ loops good = absurd good
 
 pub transform-loop : (m : ℕ) (c : Target) (w : PlainWork) (path loops : Path) → IsGoodWork m w →
     path ≡ within (Blocks c.procs) (within (Columns c.lanes) loops) → IsLoop c path w
@@ -72,24 +61,20 @@ transform-loop m c w path loops good e = subst (λ p. IsLoop c p w) (sym e) (fra
 
 -- and its factors are one on all lanes
 pub one-step : (m : ℕ) (w : PlainWork) → IsGoodWork m w → lane_step w ≡ 0
-one-step m (kernel trees) good = refl
-one-step m (rows root size) good = refl
-one-step m (horner root size) good = refl
 one-step m (tile v) good = absurd good
-one-step m (copy size) good = refl
+one-step m _ good = refl
 
 -- ---- tiles
 
 blocks-place : (v m : ℕ) (path : Path) (vs : List ℕ) (k : ℕ) → AreBlocks path →
     (b : ℕ) × ((l : ℕ) → place path (m * v) vs (k * v + l) ≡ b * v + l)
-blocks-place v m [] vs k h = (k, λ l. refl)
 blocks-place v m (Columns c ∷ path) vs k h = absurd h
-blocks-place v m (Blocks c ∷ path) [] k h = (k, λ l. refl)
 blocks-place v m (Blocks c ∷ path) (x ∷ vs) k h =
     let inner = blocks-place v m path vs k h in (
       x * (copies_of path * m) + inner.0,
       λ l. ap₂ (λ s y. x * s + y) (size_under-copies path (m * v)) (inner.1 l) ∙ omega arith,
     )
+blocks-place v m _ _ k h = (k, λ l. refl)
 
 tile-vectors : (c : Target) (loops : Path) (vs : List ℕ) (q k : ℕ) → AreBlocks loops → q < c.procs →
     (b : ℕ) × ((lane : ℕ) → lane < c.lanes → place (framed c (tile c.lanes) loops) (c.lanes * c.lanes)

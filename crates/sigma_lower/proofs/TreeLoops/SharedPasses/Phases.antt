@@ -1,43 +1,29 @@
 -- In each phase of a layout every line belongs to one processor.
-use Rattle.std.proofs.Common.{◌≡◌, ℕ, ◌+◌, ◌*◌, ◌/◌, ◌%◌, ◌<◌, ◌≤◌, Bool, true, false, arith, refl, sym, ap, ◌∙◌, List, []}
-use Rattle.std.proofs.Common.{◌∷◌, ◌++◌, if◌then◌else◌, subst, inl, inr, append-nil, mod-lt, mul_comm}
-use Rattle.std.specs.Prelude.{◌==◌, map}
-use Rattle.std.proofs.lemmas.Bool.{cases_eq}
-use Rattle.index_fn.specs.Mapping.{Mapping, Strided, ThomasIn, ThomasBack, at}
-use Rattle.operators.specs.declared.target.Target.{Target}
-use Rattle.operators.specs.Operator.{stride}
-use Rattle.operators.proofs.Lists.{factor_positive}
-use Rattle.sigma_lower.specs.TreeLoops.Merge.{Merging, merge_term, merged, passes_of_terms, merged_phases}
-use Rattle.sigma_lower.specs.TreeTerms.Root.{right_path, left_path, whole_path, tile_path, turned_in, vectors_grouped}
-use Rattle.sigma_lower.specs.TreeTerms.Root.{lines_moved, vectors_turned, lines_dealt}
-use Rattle.sigma_lower.specs.TreeTerms.Root.{left_core, left_terms, right_terms, in_phases, root_terms}
-use Rattle.sigma_lower.specs.TreeTerms.Term.{PlainTerm, gath, scat, nest, lowered}
-use Rattle.sigma_spl.specs.Work.{PlainWork, tile, work_size}
-use Rattle.sigma_lower.specs.TreeTerms.Wrapped.{wrapped, unit_of}
+use Rattle.sigma_lower.proofs.Words.{◌≡◌, ℕ, ◌+◌, ◌*◌, ◌/◌, ◌%◌, ◌<◌, ◌≤◌, Bool, true, false, arith, refl, sym, ap, ◌∙◌}
+use Rattle.sigma_lower.proofs.Words.{List, [], ◌∷◌, ◌++◌, if◌then◌else◌, subst, inl, inr, append-nil, mod-lt, mul_comm}
+use Rattle.sigma_lower.proofs.Words.{◌==◌, map, cases_eq, Mapping, Strided, ThomasIn, ThomasBack, at, Target, stride}
+use Rattle.sigma_lower.proofs.Words.{factor_positive, Merging, merge_term, merged, passes_of_terms, merged_phases}
+use Rattle.sigma_lower.proofs.Words.{right_path, left_path, whole_path, tile_path, turned_in, vectors_grouped}
+use Rattle.sigma_lower.proofs.Words.{lines_moved, vectors_turned, lines_dealt, left_core, left_terms, right_terms}
+use Rattle.sigma_lower.proofs.Words.{root_terms, PlainTerm, gath, scat, nest, lowered, PlainWork, tile, work_size}
+use Rattle.sigma_lower.proofs.Words.{wrapped, unit_of, within, size-within, steps_of, Blocks, Columns, Path, size_under}
+use Rattle.sigma_lower.proofs.Words.{place, Rule, RuleHasParts, RootHasParts, CanShareLayout, Layout, work, by}
+use Rattle.sigma_lower.proofs.Words.{layout_size, IsGoodLayout, unequal, in_phases, within-wide}
 use Rattle.sigma_lower.proofs.TreeTerms.Permuted.{StaysBelow}
 use Rattle.sigma_lower.specs.TreeLoops.SharedPasses.Shared.{ArePhasesShared}
 use Rattle.sigma_lower.proofs.TreeLoops.Emitted.{as_lowered, emitted, emitted-lowered}
 use Rattle.sigma_lower.proofs.TreeLoops.TreePasses.{back}
 use Rattle.sigma_lower.proofs.TreeLoops.Walks.{Brings, IsLaw, Keeps, Point, RightKeeps, begun, brings-law, done, ready}
-use Rattle.sigma_lower.proofs.TreeLoops.Walks.{right-law, settled, steps-law, tiled}
+use Rattle.sigma_lower.proofs.TreeLoops.Walks.{right-law, steps-law, tiled}
 use Rattle.sigma_lower.proofs.TreeLoops.SharedPasses.Merging.{nothing}
 use Rattle.sigma_lower.proofs.TreeLoops.SharedPasses.Owners.{KeepsOwner, First, first-gath, first-scat, first-diag}
-use Rattle.sigma_lower.proofs.TreeLoops.SharedPasses.Owners.{first-nest, Shared, shared-gath, shared-scat, shared-diag}
-use Rattle.sigma_lower.proofs.TreeLoops.SharedPasses.Owners.{shared-dealt, alone-phases}
+use Rattle.sigma_lower.proofs.TreeLoops.SharedPasses.Owners.{first-nest, first-own, Shared, shared-gath, shared-scat}
+use Rattle.sigma_lower.proofs.TreeLoops.SharedPasses.Owners.{shared-diag, shared-dealt, shared-own, alone-phases}
 use Rattle.sigma_lower.proofs.TreeLoops.SharedPasses.Shares.{AreShares, shares, block-of, row-block, column-block}
 use Rattle.sigma_lower.proofs.TreeLoops.SharedPasses.Shares.{block_owner, column_owner, block-owner, column-owner}
 use Rattle.sigma_lower.proofs.TreeLoops.SharedPasses.Shares.{OwnsNatural, block-natural, block-keeps, columns-keeps}
 use Rattle.sigma_lower.proofs.TreeLoops.SharedPasses.Shares.{both-columns, stays-in_column, dealt-owner}
-use Rattle.smp_rewrite.specs.Smp.{within}
 use Rattle.smp_rewrite.proofs.Dealt.{not_alone}
-use Rattle.smp_rewrite.proofs.Tensors.{size-within}
-use Rattle.smp_rewrite.specs.LayoutSteps.Step.{steps_of}
-use Rattle.operators.specs.declared.tensor_paths.Tensor.TheVariants.{Blocks, Columns}
-use Rattle.operators.specs.TensorPaths.Path.{Path, size_under, place}
-use Rattle.tree_model.specs.declared.tree.Rule.{Rule}
-use Rattle.smp_rewrite.specs.Fits.{RuleHasParts, RootHasParts, CanShareLayout}
-use Rattle.smp_rewrite.specs.LayoutSteps.Layout.{Layout, work, by, layout_size, IsGoodLayout}
-use Rattle.vec_rewrite.proofs.StepFollows.{unequal, within-wide}
 use Rattle.sigma_lower.proofs.TreeTerms.RootTerms.{shared_terms, rule-fits, rule-shared}
 use Rattle.sigma_lower.proofs.TreeTerms.Behind.{within-append}
 use Rattle.sigma_lower.proofs.TreeTerms.Lowering.{turns_below}
@@ -66,20 +52,14 @@ first-keeps c rest n f several low e stays =
 -- at the beginning what waits for the first pass is free
 abbrev FirstAt : Target → Point → Merging → Type 0
 FirstAt c begun st = st ≡ nothing
-FirstAt c ready st = First c (block_owner c) st
-FirstAt c done st = First c (block_owner c) st
-FirstAt c tiled st = First c (block_owner c) st
-FirstAt c settled st = First c (block_owner c) st
+FirstAt c _ st = First c (block_owner c) st
 
 abbrev Firsts : Target → Point → List PlainTerm → Point → Type 0
 Firsts c = Brings (FirstAt c)
 
 first-any : (c : Target) (i : Point) (st : Merging) → FirstAt c i st → First c (block_owner c) st
-first-any c begun st is = subst (First c (block_owner c)) (sym is) (tt, tt)
-first-any c ready st is = is
-first-any c done st is = is
-first-any c tiled st is = is
-first-any c settled st is = is
+first-any c begun st is = subst (First c (block_owner c)) (sym is) tt
+first-any c _ st is = is
 
 first-law : (c : Target) → IsLaw (Firsts c)
 first-law c = brings-law (FirstAt c) (first-any c) (λ st is. is)
@@ -187,8 +167,8 @@ first-after c false path w f k l st h =
 
 first-turned : (c : Target) (b : Bool) (f g : Mapping) →
     First c (block_owner c) (merged nothing ((if b then [] else gath f ∷ []) ++ gath g ∷ []))
-first-turned c true f g = (tt, tt)
-first-turned c false f g = (tt, tt)
+first-turned c true f g = tt
+first-turned c false f g = tt
 
 right-keeps : (c : Target) (w r : ℕ) (b : Layout) → IsGoodLayout c.modulus b → AreShares c r (layout_size b) →
     RightKeeps (Firsts c) c.procs c.lanes r (layout_size b) w
@@ -328,15 +308,26 @@ root-phases c (by rule w a b) can good several fits =
     let phases : in_phases c.procs first second ≡ first ∷ second ∷ [] =
     ap (λ b. if b then (first ++ second) ∷ [] else first ∷ second ∷ []) (unequal c.procs (λ one. omega (arith, one, several))) in
     subst (λ ts. ArePhasesShared c (map passes_of_terms ts)) (sym phases) (
-      record { owner = block_owner c; is_owner = block-owner c r s here; owns = (first-root c rule w a b fits good.2 here).0 },
-      (record { owner = column_owner c s; is_owner = column-owner c r s can.line here; owns = (second-root c s a good.1 here).0 }, tt),
+      record {
+        owner = block_owner c;
+        is_owner = block-owner c r s here;
+        owns = first-own c (block_owner c) (merged nothing first) (first-root c rule w a b fits good.2 here);
+      },
+      (
+        record {
+          owner = column_owner c s;
+          is_owner = column-owner c r s can.line here;
+          owns = shared-own c (column_owner c s) (merged nothing second) (second-root c s a good.1 here);
+        },
+        tt,
+      ),
     )
 
 pub phases_are_shared : (c : Target) (l : Layout) → CanShareLayout c l → IsGoodLayout c.modulus l →
     ArePhasesShared c (merged_phases c l)
 phases_are_shared c l can good =
     elim (cases_eq c.procs 1) [
-      | inl one ↦ alone-phases c (merged_phases c l) can.procs one
+      | inl one ↦ alone-phases c can.procs one (merged_phases c l)
       | inr many ↦
           let low : 1 ≤ c.procs = can.procs in
           let several : 1 < c.procs = omega (arith, low, many) in

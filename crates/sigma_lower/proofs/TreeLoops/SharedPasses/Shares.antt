@@ -1,27 +1,13 @@
 -- Each processor's share of a root of r * s words: a block of r / p rows in the first phase, and s / p columns in the second one.
-use Rattle.std.proofs.Common.{◌≡◌, ◌≢◌, ℕ, ◌+◌, ◌*◌, ◌/◌, ◌%◌, ◌<◌, ◌≤◌, arith, sym, ap, ap₂}
-use Rattle.std.proofs.Common.{◌∙◌, List, [], ◌∷◌, subst, mod-lt, div-lt_iff_lt-mul}
-use Rattle.std.specs.Prelude.{◌==◌, slice_index}
-use Rattle.std.proofs.Math.Nat.{div-add-mod', div-div-eq-div-mul, div-one, mod-one, mul-div_right, mul-mod_right}
-use Rattle.index_fn.specs.Mapping.{Mapping, at}
-use Rattle.operators.specs.declared.target.Target.{Target}
-use Rattle.operators.specs.Operator.{stride}
-use Rattle.operators.proofs.Lists.{row-of, column-of, place_below, factor_positive}
-use Rattle.sigma_lower.specs.TreeTerms.Wrapped.{wrapped}
+use Rattle.sigma_lower.proofs.Words.{◌≡◌, ◌≢◌, ℕ, ◌+◌, ◌*◌, ◌/◌, ◌%◌, ◌<◌, ◌≤◌, arith, sym, ap, ap₂, ◌∙◌, List, [], ◌∷◌}
+use Rattle.sigma_lower.proofs.Words.{subst, mod-lt, div-lt_iff_lt-mul, ◌==◌, slice_index, div-add-mod', mul-div_right}
+use Rattle.sigma_lower.proofs.Words.{Mapping, at, Target, stride, row-of, column-of, place_below, factor_positive}
+use Rattle.sigma_lower.proofs.Words.{wrapped, chosen, within, Blocks, Columns, Path, size_under, place, AreInRange}
+use Rattle.sigma_lower.proofs.Words.{HasParts, CanShareLayout, Layout, is-one, div-one, mod-one, IsDealt, is_dealt}
+use Rattle.sigma_lower.proofs.Words.{place-below, IsWide, wide_from, wide_part, IsOwner}
+use Rattle.std.proofs.Math.Nat.{div-div-eq-div-mul, mul-mod_right}
 use Rattle.sigma_lower.proofs.TreeTerms.Permuted.{StaysBelow, wrapped-below}
 use Rattle.sigma_lower.proofs.TreeTerms.Vectors.{apart}
-use Rattle.sigma_spl.proofs.Walk.{chosen}
-use Rattle.smp_rewrite.specs.Smp.{within}
-use Rattle.smp_rewrite.proofs.Dealt.{IsDealt, is_dealt}
-use Rattle.operators.specs.declared.tensor_paths.Tensor.TheVariants.{Blocks, Columns}
-use Rattle.operators.specs.TensorPaths.Path.{Path, size_under, place, AreInRange}
-use Rattle.operators.proofs.TensorPaths.PathPlaces.{place-below}
-use Rattle.smp_rewrite.specs.Fits.{HasParts, CanShareLayout}
-use Rattle.smp_rewrite.specs.LayoutSteps.Layout.{Layout}
-use Rattle.vec_rewrite.proofs.Following.{IsWide}
-use Rattle.vec_rewrite.proofs.StepFollows.{wide_from, wide_part}
-use Rattle.sigma_spl.specs.Shared.Owners.{IsOwner}
-use Rattle.smp_rewrite.proofs.Tensors.{is-one}
 
 -- several processors have equal shares of the rows and columns, each of whole lines and vectors
 pub record AreShares (c : Target) (r s : ℕ) : Type 0 where

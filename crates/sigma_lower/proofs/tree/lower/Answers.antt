@@ -1,4 +1,5 @@
-use Rattle.std.proofs.Common.{ap, ◌∙◌, subst, sym}
+use Rattle.std.proofs.Common.{◌≡◌, ap, ◌∙◌, map, subst, sym}
+use Rattle.sigma_lower.specs.Machine.{IsMachine}
 use Rattle.sigma_lower.specs.Merged.{closed_phases, phase_costs, sigma_of}
 use Rattle.sigma_lower.proofs.Costs.{vec_costs}
 use Rattle.sigma_lower.proofs.Roomy.{all_roomy}
@@ -7,6 +8,7 @@ use Rattle.sigma_lower.proofs.TreeLayouts.{machine_of}
 use Rattle.sigma_lower.proofs.TreeSigmas.Laws.{trees_are_sigmas}
 use Rattle.sigma_spl.specs.Sigma.{IsGoodSigma, sigma_on}
 use Rattle.sigma_spl.specs.Trees.{IsTreeSigma}
+use Rattle.sigma_spl.specs.Views.{plain_term}
 use Rattle.sigma_lower.proofs.TreeTerms.Goods.{phases_good}
 use Rattle.sigma_spl.specs.Shared.Targets.{target_of}
 use Rattle.vec_rewrite.specs.Views.{plain_vec}
@@ -24,40 +26,35 @@ phases-requires-clause-second c =
     let vectors = c.args.vectors in
     all_roomy h vectors.target.procs vectors.target.lanes vectors.second.items (machine_of c.args.c.now c.request-request.ensures.valid) (phases_good h (plain_vec vectors) c.requires).1
 
+-- ---- the result
+
+machine : (c : goal.In_ok-phases) → IsMachine (target_of c.args.c.now)
+machine c = machine_of c.args.c.now c.request-request.ensures.valid
+
+form : (c : goal.In_ok-phases) →
+    of_phases c.args.vectors.target (map plain_term c.in_ok-phases.phases.items) ≡ sigma_of (plain_vec c.args.vectors)
+form c =
+    let vectors = c.args.vectors in
+    ap (of_phases vectors.target)
+    (c.in_ok-phases.ensures ∙ ap (closed_phases vectors.target.size vectors.closing) c.in_ok-made.ensures)
+
 pub returns-clause-meaning : goal.returns-clause-meaning
-returns-clause-meaning c =
-    let request = c.args.c.now in
-    let vectors = plain_vec c.args.vectors in
-    let h = vectors.target in
-    let made = c.in_ok-phases.ensures ∙ ap (closed_phases h.size vectors.closing) c.in_ok-made.ensures in
-    λ x v.
-    ap (λ ts. sigma_on request.modulus (of_phases h ts) x) made
-    ∙ vec_means (target_of request) vectors x (machine_of request c.request-request.ensures.valid) c.requires v
+returns-clause-meaning c = λ x v.
+    ap (λ s. sigma_on c.args.c.now.modulus s x) (form c)
+    ∙ vec_means (target_of c.args.c.now) (plain_vec c.args.vectors) x (machine c) c.requires v
 
 pub returns-clause-operations : goal.returns-clause-operations
 returns-clause-operations c =
-    let request = c.args.c.now in
-    let vectors = plain_vec c.args.vectors in
-    let h = vectors.target in
-    let made = c.in_ok-phases.ensures ∙ ap (closed_phases h.size vectors.closing) c.in_ok-made.ensures in
-    ap (λ ts. phase_costs request.weight request.modulus (of_phases h ts)) made
-    ∙ vec_costs request.weight (target_of request) vectors c.requires
+    ap (phase_costs c.args.c.now.weight c.args.c.now.modulus) (form c)
+    ∙ vec_costs c.args.c.now.weight (target_of c.args.c.now) (plain_vec c.args.vectors) c.requires
 
 pub returns-clause-good : goal.returns-clause-good
 returns-clause-good c =
-    let request = c.args.c.now in
-    let vectors = plain_vec c.args.vectors in
-    let h = vectors.target in
-    let made = c.in_ok-phases.ensures ∙ ap (closed_phases h.size vectors.closing) c.in_ok-made.ensures in
-    subst (λ ts. IsGoodSigma (of_phases h ts)) (sym made)
-    (vec_can_merge (target_of request) vectors (machine_of request c.request-request.ensures.valid) c.requires)
+    subst IsGoodSigma (sym (form c))
+    (vec_can_merge (target_of c.args.c.now) (plain_vec c.args.vectors) (machine c) c.requires)
 
 pub returns-clause-tree : goal.returns-clause-tree
-returns-clause-tree c =
-    let request = c.args.c.now in
-    let vectors = plain_vec c.args.vectors in
-    let h = vectors.target in
-    let made = c.in_ok-phases.ensures ∙ ap (closed_phases h.size vectors.closing) c.in_ok-made.ensures in
-    λ t is.
-    subst (λ ts. IsTreeSigma request t (of_phases h ts)) (sym made)
-    (subst (λ g. IsTreeSigma request t (sigma_of g)) (sym is.form) (trees_are_sigmas request t is.valid is.tree))
+returns-clause-tree c = λ t is.
+    let is_tree = IsTreeSigma c.args.c.now t in
+    subst is_tree (sym (form c))
+    (subst (λ g. is_tree (sigma_of g)) (sym is.form) (trees_are_sigmas c.args.c.now t is.valid is.tree))
