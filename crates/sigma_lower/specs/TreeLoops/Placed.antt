@@ -71,7 +71,3 @@ abbrev pub IsLimitedPass : Target → PlainPass → Type 0
 IsLimitedPass h p =
     (cs : ℕ → ℕ) (e : Sum) → AreCounts p.path (work_size p.work) 0 cs → Fits (work_size p.work) e cs → IsName p.work e →
     ArePlacesLimited h p cs e
-
-abbrev pub AllLimited : Target → List PlainPass → Type 0
-AllLimited h [] = Unit {0}
-AllLimited h (p ∷ ps) = IsLimitedPass h p × AllLimited h ps
