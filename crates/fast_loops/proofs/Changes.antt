@@ -1,14 +1,12 @@
 -- Steps in place of others: they leave the same memory, and are some of them.
-use Rattle.std.proofs.Common.{◌≡◌, ℕ, ◌+◌, ◌<◌, ◌≤◌, List, [], ◌∷◌, ◌++◌, Contains, flat_map, refl, sym, ap}
-use Rattle.std.proofs.Common.{◌∙◌, subst}
+use Rattle.std.proofs.Common.{◌≡◌, ℕ, ◌+◌, ◌<◌, ◌≤◌, List, [], ◌∷◌, ◌++◌, Contains, flat_map, refl, sym, ap, ◌∙◌, subst}
 use Rattle.std.specs.List.{range_with_len}
 use Rattle.std.proofs.Math.Path.{fun_ext}
 use Rattle.std.proofs.lemmas.List.{map-append}
 use Rattle.icode.specs.Actions.{Step, actions_of}
 use Rattle.icode.proofs.Lines.{Contains-range}
 use Rattle.fast_loops.proofs.Acts.{DoTheSame}
-use Rattle.fast_loops.proofs.Members.{into_flat_map, from_flat_map, range_item}
-use Rattle.fast_loops.proofs.Members.{append_within}
+use Rattle.fast_loops.proofs.Members.{into_flat_map, from_flat_map, range_item, append_within}
 use Rattle.fast_loops.proofs.Same.{in-loops, same-append, same-trans}
 
 pub record AreFor (m lanes : ℕ) (xs ys : List Step) : Type 0 where

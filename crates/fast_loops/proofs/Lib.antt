@@ -4,6 +4,7 @@ pub mod LoopLanes
 pub mod Acts
 pub mod Alone
 pub mod Apart
+pub mod Bools
 pub mod Changes
 pub mod Counted
 pub mod Counts

@@ -8,12 +8,12 @@ use Rattle.icode.specs.Expression.{Numbers, alone, with_part, with_sum, sum_numb
 use Rattle.icode.specs.declared.program.Array.{Array}
 use Rattle.icode.specs.Actions.{Step, step_of, steps_of_body}
 use Rattle.icode.specs.Plain.{PlainExpr, PlainParts, PlainPart, PlainOp, PlainBody, PlainProgram, Sum, NoParts}
-use Rattle.icode.specs.Plain.{AndParts, Proc, Var, Load, Store}
-use Rattle.icode.specs.Plain.{MulTable, Loop, Do, NoStmts, AndStmts}
+use Rattle.icode.specs.Plain.{AndParts, Proc, Var, Load, Store, MulTable, Loop, Do, NoStmts, AndStmts}
 use Rattle.icode.proofs.Bools.{both_true}
 use Rattle.fast_loops.specs.Places.{are_linear, is_linear, stride, same_part, same_parts, exchanged_first}
 use Rattle.fast_loops.specs.Places.{exchanged_parts, exchanged_place, exchanged_op, exchanged_round}
 use Rattle.fast_loops.specs.Rounds.{Stored, same_array, is_placed, are_placed}
+use Rattle.fast_loops.proofs.Bools.{both_kept}
 
 -- ---- the values of two loops one in the other
 
@@ -87,6 +87,35 @@ chosen a b x y e = ap (λ t. cond t x y) (eq-eqb a b e)
 pub passed : {X : Type 0} (a b : ℕ) (x y : X) → a ≢ b → (if a == b then x else y) ≡ y
 passed a b x y e = ap (λ t. cond t x y) (ne_eqb a b e)
 
+-- what holds of either, where it is taken, holds of the one that is
+pub by_equal : {X : Type 0} (P : X → Type 0) (a b : ℕ) (x y : X) → (a ≡ b → P x) → (a ≢ b → P y) →
+    P (if a == b then x else y)
+by_equal P a b x y same other =
+    elim (cases_eq a b) [
+      | inl e ↦ subst P (sym (chosen a b x y e)) (same e)
+      | inr ne ↦ subst P (sym (passed a b x y ne)) (other ne)
+    ]
+
+-- what becomes of a multiple of a loop's value, by which of the loops it is
+pub first_cases : (P : PlainParts → Type 0) (loop factor depth inner : ℕ) (rest : PlainParts) →
+    (depth ≡ loop + 1 → P (AndParts (Var loop inner) (AndParts (Var (loop + 1) factor) rest))) →
+    (depth ≢ loop + 1 → P (AndParts (Var (loop + 1) factor) (AndParts (Var depth inner) rest))) →
+    P (exchanged_first loop factor (AndParts (Var depth inner) rest))
+first_cases P loop factor depth inner rest =
+    by_equal P depth (loop + 1) (AndParts (Var loop inner) (AndParts (Var (loop + 1) factor) rest))
+    (AndParts (Var (loop + 1) factor) (AndParts (Var depth inner) rest))
+
+pub parts_cases : (P : PlainParts → Type 0) (loop depth factor : ℕ) (rest : PlainParts) →
+    (depth ≡ loop → P (exchanged_first loop factor rest)) →
+    (depth ≢ loop → depth ≡ loop + 1 → P (AndParts (Var loop factor) rest)) →
+    (depth ≢ loop → depth ≢ loop + 1 → P (AndParts (Var depth factor) (exchanged_parts loop rest))) →
+    P (exchanged_parts loop (AndParts (Var depth factor) rest))
+parts_cases P loop depth factor rest first second neither =
+    let next : PlainParts = AndParts (Var loop factor) rest in
+    let kept : PlainParts = AndParts (Var depth factor) (exchanged_parts loop rest) in
+    by_equal P depth loop (exchanged_first loop factor rest) (if depth == loop + 1 then next else kept) first
+    (λ other. by_equal P depth (loop + 1) next kept (second other) (neither other))
+
 -- the processor's part stands before those of the loops' values
 pub proc_first : (least factor : ℕ) (rest : PlainParts) → are_linear least (AndParts (Proc factor) rest) ≡ true →
     (least ≡ 0) × (are_linear least rest ≡ true)
@@ -124,25 +153,22 @@ exchanged-first loop factor NoParts ws us q h is = ap (λ v. with_part (alone (v
 exchanged-first loop factor (AndParts (Proc other) rest) ws us q h is = absurd (omega (arith, (proc_first (loop + 1) other rest h).0))
 exchanged-first loop factor (AndParts (Var depth inner) rest) ws us q h is =
     let two = from_least (loop + 1) depth _ h in
-    let swapped : PlainParts = AndParts (Var loop inner) (AndParts (Var (loop + 1) factor) rest) in
-    let kept : PlainParts = AndParts (Var (loop + 1) factor) (AndParts (Var depth inner) rest) in
-    elim (cases_eq depth (loop + 1)) [
-      | inl same ↦
-          ap (λ parts. parts_numbers parts us q) (chosen depth (loop + 1) swapped kept same)
-          ∙ turned (alone (slice_index us loop * inner)) (alone (slice_index us (loop + 1) * factor)) (parts_numbers rest us q)
-          ∙ ap₂ with_part
-          (ap (λ v. alone (v * factor)) is.second)
-          (ap₂ with_part
-          (ap (λ v. alone (v * inner)) (is.first ∙ ap (slice_index ws) (sym same)))
-          (deeper (depth + 1) loop rest ws us q two.1 (omega arith) is.agree))
-      | inr other ↦
-          ap (λ parts. parts_numbers parts us q) (passed depth (loop + 1) swapped kept other)
-          ∙ ap₂ with_part
-          (ap (λ v. alone (v * factor)) is.second)
-          (ap₂ with_part
-          (ap (λ v. alone (v * inner)) (is.agree.others depth (λ e. omega (arith, two.0)) other))
-          (deeper (depth + 1) loop rest ws us q two.1 (omega (arith, two.0, other)) is.agree))
-    ]
+    let old : Numbers =
+    with_part (alone (slice_index ws loop * factor)) (parts_numbers (AndParts (Var depth inner) rest) ws q) in
+    first_cases (λ parts. parts_numbers parts us q ≡ old) loop factor depth inner rest
+    (λ same.
+    turned (alone (slice_index us loop * inner)) (alone (slice_index us (loop + 1) * factor)) (parts_numbers rest us q)
+    ∙ ap₂ with_part
+    (ap (λ v. alone (v * factor)) is.second)
+    (ap₂ with_part
+    (ap (λ v. alone (v * inner)) (is.first ∙ ap (slice_index ws) (sym same)))
+    (deeper (depth + 1) loop rest ws us q two.1 (omega (arith, same)) is.agree)))
+    (λ other.
+    ap₂ with_part
+    (ap (λ v. alone (v * factor)) is.second)
+    (ap₂ with_part
+    (ap (λ v. alone (v * inner)) (is.agree.others depth (λ e. omega (arith, two.0)) other))
+    (deeper (depth + 1) loop rest ws us q two.1 (omega (arith, two.0, other)) is.agree)))
 exchanged-first loop factor (AndParts part rest) ws us q h is = wrong h
 
 -- parts of an exchanged round have the numbers that they had
@@ -154,30 +180,19 @@ exchanged-numbers least loop (AndParts (Proc factor) rest) ws us q h is =
     ap (with_part (alone (q * factor))) (exchanged-numbers least loop rest ws us q (proc_first least factor rest h).1 is)
 exchanged-numbers least loop (AndParts (Var depth factor) rest) ws us q h is =
     let two = from_least least depth _ h in
-    let first : PlainParts = exchanged_first loop factor rest in
-    let second : PlainParts = AndParts (Var loop factor) rest in
-    let neither : PlainParts = AndParts (Var depth factor) (exchanged_parts loop rest) in
-    let later : PlainParts = if depth == loop + 1 then second else neither in
-    elim (cases_eq depth loop) [
-      | inl same ↦
-          ap (λ parts. parts_numbers parts us q) (chosen depth loop first later same)
-          ∙ exchanged-first loop factor rest ws us q (subst (λ d. are_linear (d + 1) rest ≡ true) same two.1) is
-          ∙ ap (λ d. with_part (alone (slice_index ws d * factor)) (parts_numbers rest ws q)) (sym same)
-      | inr other ↦
-          ap (λ parts. parts_numbers parts us q) (passed depth loop first later other)
-          ∙ elim (cases_eq depth (loop + 1)) [
-            | inl next ↦
-                ap (λ parts. parts_numbers parts us q) (chosen depth (loop + 1) second neither next)
-                ∙ ap₂ with_part
-                (ap (λ v. alone (v * factor)) (is.first ∙ ap (slice_index ws) (sym next)))
-                (deeper (depth + 1) loop rest ws us q two.1 (omega arith) is.agree)
-            | inr farther ↦
-                ap (λ parts. parts_numbers parts us q) (passed depth (loop + 1) second neither farther)
-                ∙ ap₂ with_part
-                (ap (λ v. alone (v * factor)) (is.agree.others depth other farther))
-                (exchanged-numbers (depth + 1) loop rest ws us q two.1 is)
-          ]
-    ]
+    parts_cases (λ parts. parts_numbers parts us q ≡ parts_numbers (AndParts (Var depth factor) rest) ws q) loop depth
+    factor rest
+    (λ same.
+    exchanged-first loop factor rest ws us q (subst (λ d. are_linear (d + 1) rest ≡ true) same two.1) is
+    ∙ ap (λ d. with_part (alone (slice_index ws d * factor)) (parts_numbers rest ws q)) (sym same))
+    (λ other next.
+    ap₂ with_part
+    (ap (λ v. alone (v * factor)) (is.first ∙ ap (slice_index ws) (sym next)))
+    (deeper (depth + 1) loop rest ws us q two.1 (omega (arith, next)) is.agree))
+    (λ other farther.
+    ap₂ with_part
+    (ap (λ v. alone (v * factor)) (is.agree.others depth other farther))
+    (exchanged-numbers (depth + 1) loop rest ws us q two.1 is))
 exchanged-numbers least loop (AndParts part rest) ws us q h is = wrong h
 
 -- a place of an exchanged round is the place that it was
@@ -242,8 +257,7 @@ pub placed_linear : (lanes : ℕ) (to : Stored) (step : ℕ) (body : PlainBody) 
     has_linear_places body ≡ true
 placed_linear lanes to step NoStmts linear h = refl
 placed_linear lanes to step (AndStmts (Do op) rest) linear h =
-    let two = both_true (is_placed lanes to step op) (are_placed lanes to step rest) h in
-    and_from (has_linear_place op) (has_linear_places rest) (placed-linear lanes to step op linear two.0) (placed_linear lanes to step rest linear two.1)
+    both_kept (placed-linear lanes to step op linear) (placed_linear lanes to step rest linear) h
 placed_linear lanes to step (AndStmts (Loop count body) rest) linear h = wrong h
 
 -- ---- exchanged places are linear
@@ -265,19 +279,15 @@ first-linear least loop factor NoParts within h = and_from (nat_le least (loop +
 first-linear least loop factor (AndParts (Proc other) rest) within h = absurd (omega (arith, (proc_first (loop + 1) other rest h).0))
 first-linear least loop factor (AndParts (Var depth inner) rest) within h =
     let two = from_least (loop + 1) depth _ h in
-    let swapped : PlainParts = AndParts (Var loop inner) (AndParts (Var (loop + 1) factor) rest) in
-    let kept : PlainParts = AndParts (Var (loop + 1) factor) (AndParts (Var depth inner) rest) in
-    elim (cases_eq depth (loop + 1)) [
-      | inl same ↦
-          ap (are_linear least) (chosen depth (loop + 1) swapped kept same)
-          ∙ and_from (nat_le least loop) _ (le-leb least loop within)
-          (and_from (nat_le (loop + 1) (loop + 1)) (are_linear (loop + 1 + 1) rest) (le-leb (loop + 1) (loop + 1) (omega arith))
-          (subst (λ d. are_linear (d + 1) rest ≡ true) same two.1))
-      | inr other ↦
-          ap (are_linear least) (passed depth (loop + 1) swapped kept other)
-          ∙ and_from (nat_le least (loop + 1)) _ (le-leb least (loop + 1) (omega arith))
-          (and_from (nat_le (loop + 1 + 1) depth) (are_linear (depth + 1) rest) (le-leb (loop + 1 + 1) depth (omega (arith, two.0, other))) two.1)
-    ]
+    first_cases (λ parts. are_linear least parts ≡ true) loop factor depth inner rest
+    (λ same.
+    and_from (nat_le least loop) _ (le-leb least loop within)
+    (and_from (nat_le (loop + 1) (loop + 1)) (are_linear (loop + 1 + 1) rest)
+    (le-leb (loop + 1) (loop + 1) (omega arith)) (subst (λ d. are_linear (d + 1) rest ≡ true) same two.1)))
+    (λ other.
+    and_from (nat_le least (loop + 1)) _ (le-leb least (loop + 1) (omega arith))
+    (and_from (nat_le (loop + 1 + 1) depth) (are_linear (depth + 1) rest)
+    (le-leb (loop + 1 + 1) depth (omega (arith, two.0, other))) two.1))
 first-linear least loop factor (AndParts part rest) within h = wrong h
 
 parts-linear : (least loop : ℕ) (parts : PlainParts) → least ≢ loop + 1 → are_linear least parts ≡ true →
@@ -288,27 +298,16 @@ parts-linear least loop (AndParts (Proc factor) rest) far h =
     and_from (least == 0) _ (eq-eqb least 0 two.0) (parts-linear least loop rest far two.1)
 parts-linear least loop (AndParts (Var depth factor) rest) far h =
     let two = from_least least depth _ h in
-    let first : PlainParts = exchanged_first loop factor rest in
-    let second : PlainParts = AndParts (Var loop factor) rest in
-    let neither : PlainParts = AndParts (Var depth factor) (exchanged_parts loop rest) in
-    let later : PlainParts = if depth == loop + 1 then second else neither in
-    elim (cases_eq depth loop) [
-      | inl same ↦
-          ap (are_linear least) (chosen depth loop first later same)
-          ∙ first-linear least loop factor rest (omega (arith, two.0, same)) (subst (λ d. are_linear (d + 1) rest ≡ true) same two.1)
-      | inr other ↦
-          ap (are_linear least) (passed depth loop first later other)
-          ∙ elim (cases_eq depth (loop + 1)) [
-            | inl next ↦
-                ap (are_linear least) (chosen depth (loop + 1) second neither next)
-                ∙ and_from (nat_le least loop) (are_linear (loop + 1) rest) (le-leb least loop (omega (arith, two.0, next, far)))
-                (lower (depth + 1) (loop + 1) rest (omega (arith, next)) two.1)
-            | inr farther ↦
-                ap (are_linear least) (passed depth (loop + 1) second neither farther)
-                ∙ and_from (nat_le least depth) _ (le-leb least depth two.0)
-                (parts-linear (depth + 1) loop rest (λ e. other (omega (arith, e))) two.1)
-          ]
-    ]
+    parts_cases (λ parts. are_linear least parts ≡ true) loop depth factor rest
+    (λ same.
+    first-linear least loop factor rest (omega (arith, two.0, same))
+    (subst (λ d. are_linear (d + 1) rest ≡ true) same two.1))
+    (λ other next.
+    and_from (nat_le least loop) (are_linear (loop + 1) rest) (le-leb least loop (omega (arith, two.0, next, far)))
+    (lower (depth + 1) (loop + 1) rest (omega (arith, next)) two.1))
+    (λ other farther.
+    and_from (nat_le least depth) _ (le-leb least depth two.0)
+    (parts-linear (depth + 1) loop rest (λ e. other (omega (arith, e))) two.1))
 parts-linear least loop (AndParts part rest) far h = wrong h
 
 place-linear : (loop : ℕ) (place : PlainExpr) → is_linear place ≡ true → is_linear (exchanged_place loop place) ≡ true
@@ -325,8 +324,7 @@ pub linear_exchanged : (loop : ℕ) (body : PlainBody) → has_linear_places bod
     has_linear_places (exchanged_round loop body) ≡ true
 linear_exchanged loop NoStmts h = refl
 linear_exchanged loop (AndStmts (Do op) rest) h =
-    let two = both_true (has_linear_place op) (has_linear_places rest) h in
-    and_from (has_linear_place (exchanged_op loop op)) _ (op-linear loop op two.0) (linear_exchanged loop rest two.1)
+    both_kept (op-linear loop op) (linear_exchanged loop rest) h
 linear_exchanged loop (AndStmts (Loop count body) rest) h = wrong h
 
 -- ---- exchanged rounds

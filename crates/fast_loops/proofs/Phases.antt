@@ -1,11 +1,10 @@
 -- The phases of a program: what is true of each, the list of each processor, and other statements in them.
-use Rattle.std.proofs.Common.{◌≡◌, ℕ, zero, suc, ◌<◌, ◌≤◌, List, [], ◌∷◌, ◌++◌, Bool, true, All, map, flat_map}
-use Rattle.std.proofs.Common.{length, refl, sym, ap, ap₂, ◌∙◌, arith}
+use Rattle.std.proofs.Common.{◌≡◌, ℕ, zero, suc, ◌<◌, ◌≤◌, List, [], ◌∷◌, ◌++◌, Bool, true, All, map, flat_map, length}
+use Rattle.std.proofs.Common.{refl, sym, ap, ap₂, ◌∙◌, arith}
 use Rattle.std.specs.Prelude.{nat_lt, slice_index_or}
 use Rattle.std.specs.List.{range_with_len, list_all}
 use Rattle.std.proofs.Math.ListN.{get_or-map}
 use Rattle.std.proofs.Math.Path.{fun_ext}
-use Rattle.std.proofs.lemmas.Bool.{and_from}
 use Rattle.std.proofs.lemmas.List.{get_or_past, length-map}
 use Rattle.std.proofs.lemmas.List.Elements.{All-contains}
 use Rattle.std.proofs.lemmas.List.FromFn.{get_or-map-range_with_len, length-map-range_with_len}
@@ -15,10 +14,10 @@ use Rattle.icode.specs.Actions.{plain_code}
 use Rattle.icode.specs.Lengths.{len_of_body}
 use Rattle.icode.specs.Limits.{is_body_within, are_phases_within}
 use Rattle.icode.specs.Machine.{acts}
-use Rattle.icode.specs.Plain.{PlainOp, PlainStmt, PlainBody, PlainProgram, Load}
-use Rattle.icode.specs.Plain.{Loop, Do, NoStmts, AndStmts}
+use Rattle.icode.specs.Plain.{PlainOp, PlainStmt, PlainBody, PlainProgram, Load, Loop, Do, NoStmts, AndStmts}
 use Rattle.icode.proofs.Bools.{both_true}
 use Rattle.icode.proofs.Lengths.{body_length}
+use Rattle.fast_loops.proofs.Bools.{both_kept}
 use Rattle.fast_loops.proofs.Members.{IsWithin, all_of_members}
 
 -- what all phases pass, each does, and no statements do
@@ -35,9 +34,7 @@ pub all-within : (m : ℕ) (f : PlainBody → PlainBody) (test : PlainBody → B
     (phases : List PlainBody) → list_all test phases ≡ true → are_phases_within m phases ≡ true →
     are_phases_within m (map f phases) ≡ true
 all-within m f test each phases pass within =
-    let some = both_true (nat_lt 0 (length phases)) _ within in
-    and_from (nat_lt 0 (length (map f phases))) _ (ap (nat_lt 0) (length-map phases f) ∙ some.0)
-    (all phases pass some.1)
+    both_kept (λ some. ap (nat_lt 0) (length-map phases f) ∙ some) (all phases pass) within
   where
     all : (bodies : List PlainBody) → list_all test bodies ≡ true →
         list_all (λ body. is_body_within m body 0) bodies ≡ true →
@@ -45,8 +42,7 @@ all-within m f test each phases pass within =
     all [] pass within = refl
     all (body ∷ bodies) pass within =
         let one = both_true (test body) _ pass in
-        let two = both_true (is_body_within m body 0) _ within in
-        and_from (is_body_within m (f body) 0) _ (each body one.0 two.0) (all bodies one.1 two.1)
+        both_kept (each body one.0) (all bodies one.1) within
 
 -- ---- the list of a phase and a processor
 

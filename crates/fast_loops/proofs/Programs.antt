@@ -1,6 +1,5 @@
 -- A program whose bodies are interchanged leaves what it left.
-use Rattle.std.proofs.Common.{◌≡◌, ℕ, ◌<◌, true, map, length, refl, sym, ap, ◌∙◌, subst}
-use Rattle.std.proofs.Common.{arith}
+use Rattle.std.proofs.Common.{◌≡◌, ℕ, ◌<◌, true, map, length, refl, sym, ap, ◌∙◌, subst, arith}
 use Rattle.std.specs.Prelude.{slice_index_or}
 use Rattle.std.specs.List.{list_all}
 use Rattle.std.proofs.lemmas.List.{length-map}

@@ -6,8 +6,7 @@ use Rattle.std.specs.List.{range_with_len}
 use Rattle.std.proofs.lemmas.List.Elements.{Contains-append_left, Contains-get_or}
 use Rattle.icode.specs.declared.action.Action.{Action}
 use Rattle.icode.specs.Actions.{Step, StepFits, actions_of, lane_factors, step_of, steps_of_body}
-use Rattle.icode.specs.Plain.{PlainOp, PlainBody, PlainProgram, MulConst, MulTable}
-use Rattle.icode.specs.Plain.{Loop, Do, NoStmts, AndStmts}
+use Rattle.icode.specs.Plain.{PlainOp, PlainBody, PlainProgram, MulConst, MulTable, Loop, Do, NoStmts, AndStmts}
 use Rattle.operators.specs.Sum.{list_below}
 use Rattle.operators.proofs.Lists.{length-list_below}
 use Rattle.icode.specs.CodeLaws.Nests.{AreInRange}

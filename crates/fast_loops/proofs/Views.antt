@@ -1,13 +1,12 @@
 -- Code's parts and statements, as the definitions see them.
-use Rattle.std.proofs.Common.{◌≡◌, map, ℕ, zero, suc, ◌+◌, ◌<◌, List, [], ◌∷◌, Bool, true, ap, sym}
-use Rattle.std.proofs.Common.{◌∙◌, drop, arith, refl, get_or, length}
+use Rattle.std.proofs.Common.{◌≡◌, map, ℕ, zero, suc, ◌+◌, ◌<◌, List, [], ◌∷◌, Bool, true, ap, sym, ◌∙◌, drop, arith}
+use Rattle.std.proofs.Common.{refl, get_or, length}
 use Rattle.std.specs.Prelude.{◌&&◌}
 use Rattle.std.specs.List.{list_all}
 use Rattle.icode.specs.declared.program.Op.{Op}
 use Rattle.icode.specs.declared.program.Stmt.{Stmt}
 use Rattle.icode.specs.declared.program.Stmt.TheVariants.{Do}
-use Rattle.icode.specs.Plain.{PlainStmt, PlainBody, AndStmts}
-use Rattle.icode.specs.Plain.{body_of, plain_op, plain_stmt, plain_body}
+use Rattle.icode.specs.Plain.{PlainStmt, PlainBody, AndStmts, body_of, plain_op, plain_stmt, plain_body}
 use Rattle.icode.specs.Plain as plain
 use Rattle.icode.proofs.Bools.{both_true}
 use Rattle.icode.proofs.Steps.{drop_item}

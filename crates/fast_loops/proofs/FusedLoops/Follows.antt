@@ -1,13 +1,12 @@
 -- Places that go steps of loops: how far they are from the first word of the round's block.
-use Rattle.std.proofs.Common.{◌≡◌, ℕ, zero, suc, ◌+◌, ◌-◌, ◌*◌, ◌<◌, ◌≤◌, Bool, true, false, ◌&&◌, List, [], ◌∷◌}
-use Rattle.std.proofs.Common.{◌++◌, length, refl, ap, ap₂, ◌∙◌, arith, eqb-true, leb-true}
+use Rattle.std.proofs.Common.{◌≡◌, ℕ, zero, suc, ◌+◌, ◌-◌, ◌*◌, ◌<◌, ◌≤◌, Bool, true, false, ◌&&◌, List, [], ◌∷◌, ◌++◌}
+use Rattle.std.proofs.Common.{length, refl, ap, ap₂, ◌∙◌, arith, eqb-true, leb-true}
 use Rattle.std.specs.Prelude.{slice_index, nat_le, ◌==◌, if◌then◌else◌}
 use Rattle.std.proofs.Math.Nat.{mul-le-mul_right}
 use Rattle.icode.specs.CodeLaws.Nests.{AreInRange}
 use Rattle.icode.specs.Expression.{parts_numbers, one_numbers}
-use Rattle.icode.specs.Plain.{PlainExpr, PlainParts, PlainPart, PlainOp, PlainBody, Sum, NoParts, AndParts, Var}
-use Rattle.icode.specs.Plain.{Load, Store, Zero, Add, Sub, Neg, MulConst, MulTable, Tile, Loop, Do}
-use Rattle.icode.specs.Plain.{NoStmts, AndStmts}
+use Rattle.icode.specs.Plain.{PlainExpr, PlainParts, PlainPart, PlainOp, PlainBody, Sum, NoParts, AndParts, Var, Load}
+use Rattle.icode.specs.Plain.{Store, Zero, Add, Sub, Neg, MulConst, MulTable, Tile, Loop, Do, NoStmts, AndStmts}
 use Rattle.icode.proofs.Bools.{both_true}
 use Rattle.fast_loops.specs.FusedLoops.Blocks.{are_values, most, is_step, followed, followed_by, followed_op}
 use Rattle.fast_loops.specs.FusedLoops.Blocks.{followed_in}

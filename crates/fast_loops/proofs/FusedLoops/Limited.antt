@@ -9,6 +9,7 @@ use Rattle.fast_loops.specs.declared.fused_loops.blocks.Block.{Block}
 use Rattle.fast_loops.specs.FusedLoops.Blocks.{blocks_of, shared}
 use Rattle.fast_loops.specs.FusedLoops.FusedLoops.{put_behind, with_body, in_last, joined, all_joined, waiting}
 use Rattle.fast_loops.specs.FusedLoops.FusedLoops.{fused_onto, fused_phase, fused_phases}
+use Rattle.fast_loops.proofs.Bools.{both_kept, later_kept}
 
 module _ (m : ℕ) where
   put-within : (stmt : PlainStmt) (body : PlainBody) (depth : ℕ) → is_stmt_within m stmt depth ≡ true →
@@ -16,8 +17,7 @@ module _ (m : ℕ) where
       is_body_within m (put_behind stmt body) depth ≡ true
   put-within stmt NoStmts depth h k = and_from (is_stmt_within m stmt depth) true h refl
   put-within stmt (AndStmts first rest) depth h k =
-      let two = both_true (is_stmt_within m first depth) (is_body_within m rest depth) k in
-      and_from (is_stmt_within m first depth) (is_body_within m (put_behind stmt rest) depth) two.0 (put-within stmt rest depth h two.1)
+      later_kept (is_stmt_within m first depth) (put-within stmt rest depth h) k
 
   -- a change that keeps the limits in a loop
   module _ (f : PlainBody → PlainBody) (depth : ℕ) (keeps : (body : PlainBody) →
@@ -26,18 +26,15 @@ module _ (m : ℕ) where
         is_stmt_within m (with_body f stmt) depth ≡ true
     with-within (Do op) h = h
     with-within (Loop count body) h =
-        let two = both_true (is_small_positive count) _ h in
-        let more = both_true (nat_lt depth 64) (is_body_within m body (depth + 1)) two.1 in
-        and_from (is_small_positive count) _ two.0 (and_from (nat_lt depth 64) (is_body_within m (f body) (depth + 1)) more.0 (keeps body more.1))
+        later_kept (is_small_positive count) (later_kept (nat_lt depth 64) (keeps body)) h
 
     last-within : (made : PlainBody) → is_body_within m made depth ≡ true →
         is_body_within m (in_last f made) depth ≡ true
     last-within NoStmts h = refl
     last-within (AndStmts stmt NoStmts) h =
-        and_from (is_stmt_within m (with_body f stmt) depth) true (with-within stmt (both_true (is_stmt_within m stmt depth) true h).0) refl
+        both_kept (with-within stmt) (λ none. none) h
     last-within (AndStmts stmt (AndStmts next rest)) h =
-        let two = both_true (is_stmt_within m stmt depth) (is_body_within m (AndStmts next rest) depth) h in
-        and_from (is_stmt_within m stmt depth) (is_body_within m (in_last f (AndStmts next rest)) depth) two.0 (last-within (AndStmts next rest) two.1)
+        later_kept (is_stmt_within m stmt depth) (last-within (AndStmts next rest)) h
 
   mutual
     joined-within : (n : ℕ) (stmt : PlainStmt) (made : PlainBody) (depth : ℕ) → is_stmt_within m stmt depth ≡ true →
@@ -74,6 +71,5 @@ module _ (m : ℕ) where
       are_phases_within m (fused_phases lanes phases) ≡ true
   fused-within lanes [] h = h
   fused-within lanes (body ∷ []) h =
-      let two = both_true (is_body_within m body 0) true h in
-      and_from (is_body_within m (fused_phase lanes body) 0) true (onto-within lanes (waiting lanes body) [] NoStmts body refl two.0) refl
+      both_kept (onto-within lanes (waiting lanes body) [] NoStmts body refl) (λ none. none) h
   fused-within lanes (body ∷ next ∷ phases) h = h

@@ -12,8 +12,7 @@ use Rattle.icode.proofs.Views.{plain_stmt-Do, plain_stmt-Loop}
 use Rattle.fast_loops.specs.declared.fused_loops.blocks.Block.{Block}
 use Rattle.fast_loops.specs.Interchange.{is_nest, are_nests}
 use Rattle.fast_loops.specs.FusedLoops.Blocks.{blocks_with, blocks_of, shared}
-use Rattle.fast_loops.specs.FusedLoops.FusedLoops.{put_behind, with_body, in_last, joined, waiting}
-use Rattle.fast_loops.specs.FusedLoops.FusedLoops.{fused_onto}
+use Rattle.fast_loops.specs.FusedLoops.FusedLoops.{put_behind, with_body, in_last, joined, waiting, fused_onto}
 
 -- ---- statements after others
 

@@ -1,8 +1,7 @@
 -- Joined loops stand within the limits of programs.
-use Rattle.std.proofs.Common.{◌≡◌, ◌⊎◌, inl, inr, ℕ, ◌+◌, ◌*◌, ◌<◌, ◌≤◌, List, [], ◌∷◌, Bool, true, false, Some, None}
-use Rattle.std.proofs.Common.{ap, sym, subst, ◌∙◌, arith, refl, ltb-true, lt-ltb, map, length, mul-le-mul_left}
+use Rattle.std.proofs.Common.{◌≡◌, ◌⊎◌, inl, inr, ℕ, ◌+◌, ◌*◌, ◌<◌, ◌≤◌, List, [], Bool, true, false, Some, None, ap}
+use Rattle.std.proofs.Common.{sym, subst, ◌∙◌, arith, refl, ltb-true, lt-ltb, map, length, mul-le-mul_left}
 use Rattle.std.specs.Prelude.{◌%◌, ◌==◌, ◌&&◌, not, nat_lt, nat_le, max, if◌then◌else◌}
-use Rattle.std.specs.List.{list_all}
 use Rattle.std.specs.Option.{unwrap_or}
 use Rattle.std.proofs.lemmas.Bool.{leb-true, le-leb, and_parts, and_from}
 use Rattle.icode.specs.Limits.{is_small, is_small_positive, are_parts_within, all_parts, parts_depth, is_expr_within}
@@ -13,9 +12,11 @@ use Rattle.fast_loops.specs.Places.{are_linear}
 use Rattle.fast_loops.specs.JoinedLoops.JoinedLoops.{place_goes_on, op_goes_on, body_goes_on, lifted_parts}
 use Rattle.fast_loops.specs.JoinedLoops.JoinedLoops.{lifted_place, lifted_op, lifted_body, as_one, joined_stmt}
 use Rattle.fast_loops.specs.JoinedLoops.JoinedLoops.{joined_body}
+use Rattle.fast_loops.proofs.Bools.{both_kept, later_kept}
 use Rattle.fast_loops.proofs.Limited.{IsVarWithin, IsLoopWithin, and_three, one-within, var-within, loop-within}
 use Rattle.fast_loops.proofs.Limited.{loop-is, only-within}
 use Rattle.fast_loops.proofs.Linear.{wrong, from_least, proc_first}
+use Rattle.fast_loops.proofs.Phases.{all-within}
 use Rattle.fast_loops.proofs.JoinedLoops.Numbers.{LiftedVar, lifted_var}
 
 -- ---- places
@@ -92,38 +93,28 @@ place-within : (loop inner n : ℕ) (place : PlainExpr) → loop < n → place_g
     is_expr_within place (n + 1) ≡ true → is_expr_within (lifted_place loop place) n ≡ true
 place-within loop inner n (Sum constant parts) deep on h =
     let linear = (and_parts (are_linear 0 parts) _ on).0 in
-    let within = and_parts (is_small constant && are_parts_within parts (n + 1) 0) _ h in
-    let sum = and_parts (is_small constant) _ within.0 in
-    let few : all_parts parts ≤ 64 = leb-true (all_parts parts) 64
-    (and_parts (nat_le (all_parts parts) 64) _ within.1).0 in
     let lifted = few-and-flat loop 0 parts linear in
     let less = lifted.0 in
-    and_from (is_small constant && are_parts_within (lifted_parts loop parts) n 0) _
-    (and_from (is_small constant) _ sum.0
-    (parts-within loop n 0 0 0 parts deep (omega arith) (inl (omega arith)) linear sum.1))
-    (and_from (nat_le (all_parts (lifted_parts loop parts)) 64) _
-    (le-leb (all_parts (lifted_parts loop parts)) 64 (omega (arith, few, less)))
-    (ap (λ k. nat_le k 64) lifted.1))
+    both_kept
+    (later_kept (is_small constant) (parts-within loop n 0 0 0 parts deep (omega arith) (inl (omega arith)) linear))
+    (both_kept
+    (λ few.
+    let most = leb-true (all_parts parts) 64 few in
+    le-leb (all_parts (lifted_parts loop parts)) 64 (omega (arith, most, less)))
+    (λ flat. ap (λ k. nat_le k 64) lifted.1)) h
 
 -- ---- statements
 
 op-within : (m loop inner n : ℕ) (op : PlainOp) → loop < n → op_goes_on loop inner op ≡ true →
     is_op_within m op (n + 1) ≡ true → is_op_within m (lifted_op loop op) n ≡ true
 op-within m loop inner n (Load register array place) deep on h =
-    let both = and_parts (is_small register) _ h in
-    and_from (is_small register) _ both.0 (place-within loop inner n place deep on both.1)
+    later_kept (is_small register) (place-within loop inner n place deep on) h
 op-within m loop inner n (Store array place register) deep on h =
-    let both = and_parts (is_small register) _ h in
-    and_from (is_small register) _ both.0 (place-within loop inner n place deep on both.1)
+    later_kept (is_small register) (place-within loop inner n place deep on) h
 op-within m loop inner n (MulTable register source table place step) deep on h =
-    let a = and_parts (is_small register) _ h in
-    let b = and_parts (is_small source) _ a.1 in
-    let c = and_parts (is_small table) _ b.1 in
-    let d = and_parts (nat_lt step 2) _ c.1 in
-    and_from (is_small register) _ a.0
-    (and_from (is_small source) _ b.0
-    (and_from (is_small table) _ c.0
-    (and_from (nat_lt step 2) _ d.0 (place-within loop inner n place deep on d.1))))
+    later_kept (is_small register)
+    (later_kept (is_small source)
+    (later_kept (is_small table) (later_kept (nat_lt step 2) (place-within loop inner n place deep on)))) h
 op-within m loop inner n op deep on h = h
 
 -- statements with one loop less around them
@@ -132,9 +123,7 @@ body-lifted : (m loop inner n : ℕ) (body : PlainBody) → loop < n → body_go
 body-lifted m loop inner n NoStmts deep on h = refl
 body-lifted m loop inner n (AndStmts (Do op) rest) deep on h =
     let goes = and_parts (op_goes_on loop inner op) _ on in
-    let both = and_parts (is_stmt_within m (Do op) (n + 1)) _ h in
-    and_from (is_stmt_within m (Do (lifted_op loop op)) n) _ (op-within m loop inner n op deep goes.0 both.0)
-    (body-lifted m loop inner n rest deep goes.1 both.1)
+    both_kept (op-within m loop inner n op deep goes.0) (body-lifted m loop inner n rest deep goes.1) h
 body-lifted m loop inner n (AndStmts (Loop count body) rest) deep on h = absurd (cc)
 
 -- ---- loops
@@ -195,22 +184,11 @@ mutual
       is_body_within m (joined_body loop body) loop ≡ true
   body-joined m loop NoStmts h = refl
   body-joined m loop (AndStmts stmt rest) h =
-      let both = and_parts (is_stmt_within m stmt loop) _ h in
-      and_from (is_stmt_within m (joined_stmt loop stmt) loop) _ (stmt-joined m loop stmt both.0)
-      (body-joined m loop rest both.1)
+      both_kept (stmt-joined m loop stmt) (body-joined m loop rest) h
 
 -- the phases of a program whose loops are joined stay within the limits
 pub phases-within : (m : ℕ) (phases : List PlainBody) → are_phases_within m phases ≡ true →
     are_phases_within m (map (joined_body 0) phases) ≡ true
-phases-within m [] h = h
-phases-within m (body ∷ rest) h =
-    let both = and_parts (nat_lt 0 (length (body ∷ rest))) _ h in
-    and_from (nat_lt 0 (length (map (joined_body 0) (body ∷ rest)))) _ (lt-ltb 0 _ (omega arith)) (all (body
-    ∷ rest) both.1)
-  where
-    all : (bodies : List PlainBody) → list_all (λ b. is_body_within m b 0) bodies ≡ true →
-        list_all (λ b. is_body_within m b 0) (map (joined_body 0) bodies) ≡ true
-    all [] h = refl
-    all (b ∷ bs) h =
-        let both = and_parts (is_body_within m b 0) _ h in
-        and_from (is_body_within m (joined_body 0 b) 0) _ (body-joined m 0 b both.0) (all bs both.1)
+phases-within m phases h =
+    all-within m (joined_body 0) (λ body. is_body_within m body 0) (λ body within also. body-joined m 0 body within)
+    phases (and_parts (nat_lt 0 (length phases)) _ h).1 h

@@ -6,7 +6,6 @@ use Rattle.std.specs.Prelude.{◌==◌, nat_le, nat_lt}
 use Rattle.std.specs.List.{list_all}
 use Rattle.std.proofs.Math.Nat.{div-add-mod, div-mul-le_self}
 use Rattle.std.proofs.lemmas.Bool.{and_parts, and_from, true≢false}
-use Rattle.std.proofs.lemmas.List.{length-map}
 use Rattle.std.proofs.lemmas.List.Elements.{All-nil, All-cons, All-head, All-tail, All-append, All-drop, All-contains}
 use Rattle.icode.specs.Limits.{is_small, is_small_positive, is_expr_within, is_op_within, is_stmt_within}
 use Rattle.icode.specs.Limits.{is_body_within, are_phases_within, IsHeaderWithin}
@@ -15,9 +14,11 @@ use Rattle.icode.proofs.Bools.{both_true}
 use Rattle.fast_loops.specs.Places.{stride}
 use Rattle.fast_loops.specs.Rounds.{Stored, are_fresh, first_store}
 use Rattle.fast_loops.specs.Interchange.{counts_in, round_in, looped}
+use Rattle.fast_loops.proofs.Bools.{both_kept, later_kept}
 use Rattle.fast_loops.proofs.Linear.{wrong}
 use Rattle.fast_loops.proofs.Looped.{looped_is}
 use Rattle.fast_loops.proofs.Members.{all_of_members}
+use Rattle.fast_loops.proofs.Phases.{all-within}
 use Rattle.fast_loops.specs.LoopLanes.Rounds.{straight, ops_in, stores, is_by_lane, in_row}
 use Rattle.fast_loops.specs.LoopLanes.Columns.{Columns, Factors, renumbered, renumbered_op, product_at, in_columns}
 use Rattle.fast_loops.specs.LoopLanes.Loads.{Loaded, behind, load_tiles}
@@ -259,20 +260,15 @@ narrowed-within : (m v n count : ℕ) (counts : List ℕ) (depth : ℕ) (old new
     is_stmt_within m (Loop count (looped counts old)) depth ≡ true →
     is_stmt_within m (narrowed v count counts new) depth ≡ true
 narrowed-within m v n count [] depth old new some whole deep change h =
-    let a = and_parts (is_small_positive count) _ h in
-    let b = and_parts (nat_lt depth 64) (is_body_within m old (depth + 1)) a.1 in
     let same : depth + 1 ≡ n = omega (arith, deep) in
-    and_from (is_small_positive (count / v)) _ (count-within v count some whole a.0)
-    (and_from (nat_lt depth 64) _ b.0
-    (ap (λ d. is_body_within m new d) same ∙ change (ap (λ d. is_body_within m old d) (sym same) ∙ b.1)))
+    both_kept (count-within v count some whole)
+    (later_kept (nat_lt depth 64)
+    (λ within. ap (λ d. is_body_within m new d) same ∙ change (ap (λ d. is_body_within m old d) (sym same) ∙ within))) h
 narrowed-within m v n count (inner ∷ counts) depth old new some whole deep change h =
-    let a = and_parts (is_small_positive count) _ h in
-    let b = and_parts (nat_lt depth 64) (is_body_within m (looped (inner ∷ counts) old) (depth + 1)) a.1 in
-    let one = and_parts (is_stmt_within m (Loop inner (looped counts old)) (depth + 1)) _ b.1 in
-    and_from (is_small_positive count) _ a.0
-    (and_from (nat_lt depth 64) _ b.0
-    (and_from (is_stmt_within m (narrowed v inner counts new) (depth + 1)) _
-    (narrowed-within m v n inner counts (depth + 1) old new some whole (omega (arith, deep)) change one.0) refl))
+    later_kept (is_small_positive count)
+    (later_kept (nat_lt depth 64)
+    (both_kept (narrowed-within m v n inner counts (depth + 1) old new some whole (omega (arith, deep)) change)
+    (λ rest. rest))) h
 
 -- ---- nests and bodies
 
@@ -295,32 +291,17 @@ pub body-within : (m v regs : ℕ) (body : PlainBody) → AreSome v → 3 * regs
 body-within m v regs NoStmts lanes few h within = refl
 body-within m v regs (AndStmts stmt rest) lanes few h within =
     let both = both_true (is_lanable v stmt) (are_lanable v rest) h in
-    let two = and_parts (is_stmt_within m stmt 0) (is_body_within m rest 0) within in
-    and_from (is_stmt_within m (laned_nest v regs stmt) 0) _ (nest-within m v regs stmt lanes few both.0 two.0)
-    (body-within m v regs rest lanes few both.1 two.1)
+    both_kept (nest-within m v regs stmt lanes few both.0) (body-within m v regs rest lanes few both.1) within
 
 -- ---- programs
-
-bodies-within : (m v regs : ℕ) (bodies : List PlainBody) → AreSome v → 3 * regs < 2 ^ 20 →
-    list_all (are_lanable v) bodies ≡ true →
-    list_all (λ body. is_body_within m body 0) bodies ≡ true → list_all (λ body. is_body_within m body 0)
-    (map (laned_body v regs) bodies) ≡ true
-bodies-within m v regs [] lanes few h within = refl
-bodies-within m v regs (body ∷ bodies) lanes few h within =
-    let both = both_true (are_lanable v body) _ h in
-    let two = and_parts (is_body_within m body 0) _ within in
-    and_from (is_body_within m (laned_body v regs body) 0) _ (body-within m v regs body lanes few both.0 two.0)
-    (bodies-within m v regs bodies lanes few both.1 two.1)
 
 -- the phases of a program that can be laned stay within the limits
 pub phases-within : (m v regs : ℕ) (phases : List PlainBody) → IsLanes v → 3 * regs < 2 ^ 20 →
     list_all (are_lanable v) phases ≡ true →
     are_phases_within m phases ≡ true → are_phases_within m (map (laned_body v regs) phases) ≡ true
-phases-within m v regs phases lanes few h within =
-    let two = and_parts (nat_lt 0 (length phases)) _ within in
-    and_from (nat_lt 0 (length (map (laned_body v regs) phases))) _
-    (ap (nat_lt 0) (length-map phases (laned_body v regs)) ∙ two.0)
-    (bodies-within m v regs phases (are_some v lanes) few h two.1)
+phases-within m v regs phases lanes few =
+    all-within m (laned_body v regs) (are_lanable v)
+    (λ body h within. body-within m v regs body (are_some v lanes) few h within) phases
 
 -- and so does its header
 pub header-within : (size modulus procs line lanes regs v : ℕ) → IsLanes v → 3 * regs < 2 ^ 20 →

@@ -11,8 +11,7 @@ use Rattle.icode.specs.declared.action.Action.TheVariants as actions
 use Rattle.icode.specs.declared.program.Array.TheVariants.{X}
 use Rattle.icode.specs.Actions.{Step, StepFits, actions_of, step_of}
 use Rattle.icode.specs.Machine.{value_put}
-use Rattle.icode.specs.Plain.{PlainOp, PlainProgram, Load, Store, Zero, Add, Sub, Neg, MulConst, MulTable}
-use Rattle.icode.specs.Plain.{Tile}
+use Rattle.icode.specs.Plain.{PlainOp, PlainProgram, Load, Store, Zero, Add, Sub, Neg, MulConst, MulTable, Tile}
 use Rattle.icode.proofs.Bools.{both_true}
 use Rattle.fast_loops.specs.Rounds.{is_fresh}
 use Rattle.fast_loops.proofs.Changes.{in-loop}

@@ -6,8 +6,7 @@ use Rattle.std.specs.List.{range_with_len}
 use Rattle.std.proofs.lemmas.Bool.{cases_Bool, eqb-false}
 use Rattle.std.proofs.lemmas.List.Elements.{All-head}
 use Rattle.icode.specs.Actions.{Step, StepFits, step_of, steps_of_stmt, steps_of_body}
-use Rattle.icode.specs.Plain.{PlainOp, PlainStmt, PlainBody, PlainProgram}
-use Rattle.icode.specs.Plain.{MulTable, Loop, Do, NoStmts, AndStmts}
+use Rattle.icode.specs.Plain.{PlainOp, PlainStmt, PlainBody, PlainProgram, MulTable, Loop, Do, NoStmts, AndStmts}
 use Rattle.icode.proofs.Bools.{both_true}
 use Rattle.fast_loops.specs.TwoTables.Factors.{Cut}
 use Rattle.fast_loops.specs.TwoTables.Places.{is_even}

@@ -1,7 +1,6 @@
 -- What becomes of a program's fields where a table is in two factors.
-use Rattle.std.proofs.Common.{◌≡◌, ℕ, suc, ◌+◌, ◌-◌, ◌^◌, ◌<◌, ◌≤◌, ◌&&◌, Bool, true, false, List, [], ◌∷◌, ◌++◌}
-use Rattle.std.proofs.Common.{Vec, Global, map, length, sym, ap, ap₂, ◌∙◌, subst, arith, length-append}
-use Rattle.std.proofs.Common.{lt-ltb}
+use Rattle.std.proofs.Common.{◌≡◌, ℕ, suc, ◌+◌, ◌-◌, ◌^◌, ◌<◌, ◌≤◌, ◌&&◌, Bool, true, false, List, [], ◌∷◌, ◌++◌, Vec}
+use Rattle.std.proofs.Common.{Global, map, length, sym, ap, ap₂, ◌∙◌, subst, arith, length-append, lt-ltb}
 use Rattle.std.specs.Prelude.{nat_le, slice_index_or, slice_set, if◌then◌else◌}
 use Rattle.std.proofs.lemmas.List.{length-map, length-set, map-append, map-set}
 use Rattle.icode.specs.declared.program.Program.{Program}
@@ -13,9 +12,8 @@ use Rattle.icode.specs.Plain.{PlainBody, PlainProgram, plain_tables, plain_phase
 use Rattle.icode.specs.Program.{plain_program, table_of}
 use Rattle.icode.proofs.Bools.{both_true}
 use Rattle.fast_loops.specs.TwoTables.Factors.{Cut, first_factor, second_factor, are_factors, cut_of}
-use Rattle.fast_loops.specs.TwoTables.TwoTables.{Split, split_at, in_factors, factored_body, is_usable}
-use Rattle.fast_loops.specs.TwoTables.TwoTables.{is_cut_well, may_be_split, can_split, factored_at}
-use Rattle.fast_loops.specs.TwoTables.TwoTables.{factored_from, factored}
+use Rattle.fast_loops.specs.TwoTables.TwoTables.{Split, split_at, in_factors, factored_body, is_usable, is_cut_well}
+use Rattle.fast_loops.specs.TwoTables.TwoTables.{may_be_split, can_split, factored_at, factored_from, factored}
 use Rattle.fast_loops.proofs.TwoTables.Products.{what_is_usable, positive, what_splits}
 use Rattle.fast_loops.proofs.TwoTables.Programs.{at_table}
 use Rattle.fast_loops.proofs.TwoTables.Within.{tables_within, phases_within}

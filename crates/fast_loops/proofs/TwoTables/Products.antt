@@ -1,9 +1,7 @@
 -- A product by an entry of the table, and the two products that it becomes.
 use Rattle.std.proofs.Common.{◌≡◌, ◌≢◌, ℕ, zero, suc, ◌+◌, ◌-◌, ◌*◌, ◌/◌, ◌%◌, ◌^◌, ◌<◌, ◌≤◌, true, List, [], ◌∷◌, ◌++◌}
-use Rattle.std.proofs.Common.{All}
-use Rattle.std.proofs.Common.{map, replicate, length, refl, sym, ap, ap₂, ◌∙◌, subst, arith, eqb-true, ltb-true}
-use Rattle.std.proofs.Common.{leb-true}
-use Rattle.std.proofs.Common.{mul-le-mul_left}
+use Rattle.std.proofs.Common.{All, map, replicate, length, refl, sym, ap, ap₂, ◌∙◌, subst, arith, eqb-true, ltb-true}
+use Rattle.std.proofs.Common.{leb-true, mul-le-mul_left}
 use Rattle.std.specs.Prelude.{slice_index, slice_index_or, slice_set, nat_lt, nat_le}
 use Rattle.std.specs.List.{range_with_len, list_all}
 use Rattle.std.proofs.Math.Seq.{get_or-append_seam}

@@ -1,6 +1,6 @@
 -- A program with a table in two factors leaves what it left.
-use Rattle.std.proofs.Common.{◌≡◌, ℕ, zero, suc, ◌+◌, ◌*◌, ◌^◌, ◌<◌, ◌≤◌, ◌&&◌, List, [], true}
-use Rattle.std.proofs.Common.{length, refl, sym, ap₂, subst, arith, ltb-true, Contains}
+use Rattle.std.proofs.Common.{◌≡◌, ℕ, zero, suc, ◌+◌, ◌*◌, ◌^◌, ◌<◌, ◌≤◌, ◌&&◌, List, [], true, length, refl, sym, ap₂}
+use Rattle.std.proofs.Common.{subst, arith, ltb-true, Contains}
 use Rattle.std.specs.Prelude.{slice_index_or, nat_le}
 use Rattle.std.proofs.Math.Nat.{mul-le-mul_right}
 use Rattle.std.proofs.lemmas.List.{length-map}
@@ -13,9 +13,8 @@ use Rattle.icode.proofs.Bools.{both_true}
 use Rattle.icode.proofs.Lengths.{body_length}
 use Rattle.fast_loops.specs.TwoTables.Factors.{Cut, cut_of}
 use Rattle.fast_loops.specs.TwoTables.Laws.{IsInPlaceOf}
-use Rattle.fast_loops.specs.TwoTables.TwoTables.{split_at, in_factors, factored_body, is_body_even, is_short}
-use Rattle.fast_loops.specs.TwoTables.TwoTables.{is_usable, may_be_split, is_cut_well, can_split, factored_at}
-use Rattle.fast_loops.specs.TwoTables.TwoTables.{factored_from}
+use Rattle.fast_loops.specs.TwoTables.TwoTables.{split_at, in_factors, factored_body, is_body_even, is_short, is_usable}
+use Rattle.fast_loops.specs.TwoTables.TwoTables.{may_be_split, is_cut_well, can_split, factored_at, factored_from}
 use Rattle.fast_loops.proofs.InOrder.{Keep}
 use Rattle.fast_loops.proofs.InPlace.{StandFor, total, memory-same, in-place, itself, where-true, after}
 use Rattle.fast_loops.proofs.Phases.{passes-at, body-at}

@@ -1,6 +1,6 @@
 -- A program with a table in two factors is within the limits of programs.
-use Rattle.std.proofs.Common.{◌≡◌, ℕ, zero, suc, ◌+◌, ◌≤◌, ◌&&◌, Bool, true, false, List, [], ◌∷◌, ◌++◌, map}
-use Rattle.std.proofs.Common.{refl, sym, ap, ap₂, ◌∙◌, arith, eqb-true, le-leb, ⊎_elim}
+use Rattle.std.proofs.Common.{◌≡◌, ℕ, zero, suc, ◌+◌, ◌≤◌, ◌&&◌, Bool, true, false, List, [], ◌∷◌, ◌++◌, map, refl, sym}
+use Rattle.std.proofs.Common.{ap, ap₂, ◌∙◌, arith, eqb-true, le-leb, ⊎_elim}
 use Rattle.std.specs.Prelude.{nat_lt, nat_le, max, ◌==◌, ◌%◌, slice_set, if◌then◌else◌}
 use Rattle.std.specs.List.{list_all}
 use Rattle.std.proofs.lemmas.Bool.{cases_Bool, and_from}
@@ -8,13 +8,13 @@ use Rattle.icode.specs.Limits.{is_small, is_small_positive, is_sum_within, sum_p
 use Rattle.icode.specs.Limits.{is_expr_within, is_op_within, is_stmt_within, is_body_within, are_tables_within}
 use Rattle.icode.specs.Limits.{are_phases_within}
 use Rattle.icode.specs.Plain.{PlainExpr, PlainParts, PlainOp, PlainStmt, PlainBody, Sum, NoParts, AndParts, Proc, Var}
-use Rattle.icode.specs.Plain.{Product, MulTable, Loop, Do}
-use Rattle.icode.specs.Plain.{NoStmts, AndStmts}
+use Rattle.icode.specs.Plain.{Product, MulTable, Loop, Do, NoStmts, AndStmts}
 use Rattle.icode.proofs.Bools.{both_true}
 use Rattle.fast_loops.specs.TwoTables.Factors.{Cut, is_table}
 use Rattle.fast_loops.specs.TwoTables.Places.{are_even, is_even, quotient_by, place_in_first, place_in_second}
 use Rattle.fast_loops.specs.TwoTables.TwoTables.{Split, factored_op, two_products, put_before, factored_stmt}
 use Rattle.fast_loops.specs.TwoTables.TwoTables.{factored_body, is_op_even, is_stmt_even, is_body_even}
+use Rattle.fast_loops.proofs.Bools.{later_kept}
 use Rattle.fast_loops.proofs.Phases.{all-within}
 
 -- ---- places
@@ -77,8 +77,7 @@ before_within : (m n : ℕ) (stmts : List PlainStmt) (body : PlainBody) →
     is_body_within m (put_before stmts body) n ≡ true
 before_within m n [] body h k = k
 before_within m n (stmt ∷ stmts) body h k =
-    let two = both_true (is_stmt_within m stmt n) _ h in
-    and_from (is_stmt_within m stmt n) _ two.0 (before_within m n stmts body two.1 k)
+    later_kept (is_stmt_within m stmt n) (λ more. before_within m n stmts body more k) h
 
 module _ (m lanes : ℕ) (split : Split) (register : is_small split.register ≡ true) (second : is_small split.second ≡ true)
     (wide : is_small_positive split.cut.width ≡ true) (across : is_small_positive split.cut.across ≡ true) where
@@ -95,13 +94,12 @@ module _ (m lanes : ℕ) (split : Split) (register : is_small split.register ≡
       let a = both_true (is_small r) _ h in
       let b = both_true (is_small x) _ a.1 in
       let c = both_true (is_small of) _ b.1 in
-      let d = both_true (nat_lt step 2) _ c.1 in
-      let one = first_within lanes split.cut place n wide even d.1 in
-      let two = second_within lanes split.cut place n wide across even d.1 in
+      let one = first_within lanes split.cut place n wide even (both_true (nat_lt step 2) _ c.1).1 in
       and_from (is_op_within m (MulTable split.register x split.table (place_in_first split.cut place) 0) n) _
       (and_from (is_small split.register) _ register (and_from (is_small x) _ b.0 (and_from (is_small split.table) _ (ap is_small (sym e) ∙ c.0) one)))
       (and_from (is_op_within m (MulTable r split.register split.second (place_in_second split.cut place) step) n) true
-      (and_from (is_small r) _ a.0 (and_from (is_small split.register) _ register (and_from (is_small split.second) _ second (and_from (nat_lt step 2) _ d.0 two))))
+      (and_from (is_small r) _ a.0 (and_from (is_small split.register) _ register
+      (and_from (is_small split.second) _ second (later_kept (nat_lt step 2) (second_within lanes split.cut place n wide across even) c.1))))
       refl)
 
   op_within : (op : PlainOp) (n : ℕ) → is_op_even lanes split.table op ≡ true → is_op_within m op n ≡ true →
@@ -123,10 +121,8 @@ module _ (m lanes : ℕ) (split : Split) (register : is_small split.register ≡
     stmt_within : (stmt : PlainStmt) (n : ℕ) → is_stmt_even lanes split.table stmt ≡ true →
         is_stmt_within m stmt n ≡ true → all n (factored_stmt split stmt) ≡ true
     stmt_within (Loop count body) n even h =
-        let a = both_true (is_small_positive count) _ h in
-        let b = both_true (nat_lt n 64) _ a.1 in
         and_from (is_stmt_within m (Loop count (factored_body split body)) n) true
-        (and_from (is_small_positive count) _ a.0 (and_from (nat_lt n 64) _ b.0 (body_within body (n + 1) even b.1))) refl
+        (later_kept (is_small_positive count) (later_kept (nat_lt n 64) (body_within body (n + 1) even)) h) refl
     stmt_within (Do op) n even h = op_within op n even h
 
     body_within : (body : PlainBody) (n : ℕ) → is_body_even lanes split.table body ≡ true →
@@ -154,6 +150,6 @@ tables_within m (entries ∷ tables) zero first second h one two =
     behind : (tables : List (List ℕ)) → are_tables_within m tables ≡ true →
         are_tables_within m (tables ++ second ∷ []) ≡ true
     behind [] h = and_from (is_table m second) true two refl
-    behind (entries ∷ tables) h = let a = both_true (is_table m entries) _ h in and_from (is_table m entries) _ a.0 (behind tables a.1)
+    behind (entries ∷ tables) h = later_kept (is_table m entries) (behind tables) h
 tables_within m (entries ∷ tables) (suc k) first second h one two =
-    let a = both_true (is_table m entries) _ h in and_from (is_table m entries) _ a.0 (tables_within m tables k first second a.1 one two)
+    later_kept (is_table m entries) (λ more. tables_within m tables k first second more one two) h
