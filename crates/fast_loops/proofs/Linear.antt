@@ -131,18 +131,23 @@ stride_before least loop (AndParts (Var depth factor) rest) h before =
     passed depth loop factor (stride loop rest) (λ e. omega (arith, two.0)) ∙ stride_before (depth + 1) loop rest two.1 (omega (arith, two.0))
 stride_before least loop (AndParts part rest) h before = wrong h
 
--- parts of deeper loops alone
-deeper : (least loop : ℕ) (parts : PlainParts) (ws us : List ℕ) (q : ℕ) → are_linear least parts ≡ true →
-    loop + 1 < least → Agree loop ws us →
-    parts_numbers parts us q ≡ parts_numbers parts ws q
-deeper least loop NoParts ws us q h before agree = refl
-deeper least loop (AndParts (Proc factor) rest) ws us q h before agree = ap (with_part (alone (q * factor))) (deeper least loop rest ws us q (proc_first least factor rest h).1 before agree)
-deeper least loop (AndParts (Var depth factor) rest) ws us q h before agree =
+-- parts of deeper loops alone, whose values agree
+pub from_depth : (least : ℕ) (parts : PlainParts) (ws us : List ℕ) (q : ℕ) → are_linear least parts ≡ true →
+    ((d : ℕ) → least ≤ d → slice_index us d ≡ slice_index ws d) → parts_numbers parts us q ≡ parts_numbers parts ws q
+from_depth least NoParts ws us q h same = refl
+from_depth least (AndParts (Proc factor) rest) ws us q h same =
+    ap (with_part (alone (q * factor))) (from_depth least rest ws us q (proc_first least factor rest h).1 same)
+from_depth least (AndParts (Var depth factor) rest) ws us q h same =
     let two = from_least least depth _ h in
-    ap₂ with_part
-    (ap (λ v. alone (v * factor)) (agree.others depth (λ e. omega (arith, two.0)) (λ e. omega (arith, two.0))))
-    (deeper (depth + 1) loop rest ws us q two.1 (omega (arith, two.0)) agree)
-deeper least loop (AndParts part rest) ws us q h before agree = wrong h
+    ap₂ with_part (ap (λ v. alone (v * factor)) (same depth two.0))
+    (from_depth (depth + 1) rest ws us q two.1 (λ d le. same d (omega (arith, le, two.0))))
+from_depth least (AndParts part rest) ws us q h same = wrong h
+
+deeper : (least loop : ℕ) (parts : PlainParts) (ws us : List ℕ) (q : ℕ) → are_linear least parts ≡ true →
+    loop + 1 < least → Agree loop ws us → parts_numbers parts us q ≡ parts_numbers parts ws q
+deeper least loop parts ws us q h before agree =
+    from_depth least parts ws us q h (λ d le.
+    agree.others d (λ e. omega (arith, e, le, before)) (λ e. omega (arith, e, le, before)))
 
 -- where the loop's multiple stands in front
 exchanged-first : (loop factor : ℕ) (rest : PlainParts) (ws us : List ℕ) (q : ℕ) → are_linear (loop + 1) rest ≡ true →

@@ -83,13 +83,7 @@ PlaceFollows lanes counts (step ∷ steps) (Sum constant parts) =
 abbrev pub OpFollows : ℕ → List ℕ → List ℕ → PlainOp → Type 0
 OpFollows lanes counts steps (Load r array place) = PlaceFollows lanes counts steps place
 OpFollows lanes counts steps (Store array place r) = PlaceFollows lanes counts steps place
-OpFollows lanes counts steps (Zero r) = Unit {0}
-OpFollows lanes counts steps (Add r x y) = Unit {0}
-OpFollows lanes counts steps (Sub r x y) = Unit {0}
-OpFollows lanes counts steps (Neg r x) = Unit {0}
-OpFollows lanes counts steps (MulConst r x factor) = Unit {0}
-OpFollows lanes counts steps (MulTable r x table place entries) = Unit {0}
-OpFollows lanes counts steps (Tile r x) = Unit {0}
+OpFollows lanes counts steps op = Unit {0}
 
 abbrev pub RoundFollows : ℕ → List ℕ → List ℕ → PlainBody → Type 0
 RoundFollows lanes counts steps NoStmts = Unit {0}

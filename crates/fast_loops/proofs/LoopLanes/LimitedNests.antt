@@ -123,14 +123,13 @@ module _ (m v loop n regs : ℕ) (to : Stored) (ops : List PlainOp) (lanes : Are
         let is =
         stored_each loop to ops tests.columns.turned.from tests.columns.turned.stores_by_lane (g * v)
         (omega (arith, end, some, is_many)) in
-        let old =
-        and_parts (is_small is.register) (is_expr_within (Sum (g * v) to.parts) n)
-        (there (Store to.array (Sum (g * v) to.parts) is.register) is.has) in
-        and_from (is_small r) _ (registers_small r small)
-        (place-within v loop lanes.some n (g * v) (g * v + stride loop to.parts * l) to.parts old.1
+        both_kept (λ old. registers_small r small)
+        (λ old.
+        place-within v loop lanes.some n (g * v) (g * v + stride loop to.parts * l) to.parts old
         (small-less (g * v + stride loop to.parts * l) (v * stride loop to.parts)
         (omega (arith, end, room, moved_far (stride loop to.parts) l lt)) wide_small)
         wide_small)
+        (there (Store to.array (Sum (g * v) to.parts) is.register) is.has)
 
     product_within : (by : Option Factors) → AreMultiplied v loop ops by many → (g l r : ℕ) → g < many / v → l < v →
         r < regs + many + many →
@@ -142,24 +141,19 @@ module _ (m v loop n regs : ℕ) (to : Stored) (ops : List PlainOp) (lanes : Are
         let is_many = tests.columns.turned.many in
         let s : ℕ = stride loop by.parts in
         let is = factors.each (g * v) (omega (arith, end, some)) in
-        let a =
-        and_parts (is_small is.register) _
-        (there (MulTable is.register is.source by.table (Sum (by.constant + g * v) by.parts) is.step) is.has) in
-        let b = and_parts (is_small is.source) _ a.1 in
-        let c = and_parts (is_small by.table) _ b.1 in
-        let d = and_parts (nat_lt is.step 2) (is_expr_within (Sum (by.constant + g * v) by.parts) n) c.1 in
         let wide : is_small (v * s) ≡ true =
         small-less (v * s) (by.constant + (length (stores ops) + v * s)) (omega arith) factors.small in
         let place : is_small (by.constant + g * v + s * l) ≡ true =
         small-less (by.constant + g * v + s * l) (by.constant + (length (stores ops) + v * s))
         (omega (arith, end, is_many, moved_far s l lt)) factors.small in
         All-cons IsFine _ []
-        (and_from (is_small r) _ (registers_small r small)
-        (and_from (is_small r) _ (registers_small r small)
-        (and_from (is_small by.table) _ c.0
-        (and_from (nat_lt 1 2) _ refl
-        (place-within v loop lanes.some n (by.constant + g * v)
-        (by.constant + g * v + s * l) by.parts d.1 place wide)))))
+        (both_kept (λ old. registers_small r small)
+        (both_kept (λ old. registers_small r small)
+        (later_kept (is_small by.table)
+        (both_kept (λ old. refl)
+        (λ old.
+        place-within v loop lanes.some n (by.constant + g * v) (by.constant + g * v + s * l) by.parts old place wide))))
+        (there (MulTable is.register is.source by.table (Sum (by.constant + g * v) by.parts) is.step) is.has))
         (All-nil IsFine)
 
     columns_within : Within (in_columns v regs loop to c)

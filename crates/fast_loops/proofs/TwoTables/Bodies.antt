@@ -1,17 +1,16 @@
 -- Statements where a table is in two factors: their steps are for those of the statements.
-use Rattle.std.proofs.Common.{◌≡◌, ℕ, ◌&&◌, Bool, true, false, List, [], ◌∷◌, ◌++◌, All, flat_map, refl, sym, ap, ◌∙◌}
-use Rattle.std.proofs.Common.{subst, append-nil, append_assoc, eqb-true, ltb-true, ⊎_elim}
-use Rattle.std.specs.Prelude.{◌==◌, nat_lt, if◌then◌else◌}
+use Rattle.std.proofs.Common.{◌≡◌, ℕ, true, List, [], ◌∷◌, ◌++◌, All, flat_map, refl, sym, ap, ◌∙◌, subst, append-nil}
+use Rattle.std.proofs.Common.{append_assoc, ltb-true}
+use Rattle.std.specs.Prelude.{nat_lt}
 use Rattle.std.specs.List.{range_with_len}
-use Rattle.std.proofs.lemmas.Bool.{cases_Bool, eqb-false}
 use Rattle.std.proofs.lemmas.List.Elements.{All-head}
 use Rattle.icode.specs.Actions.{Step, StepFits, step_of, steps_of_stmt, steps_of_body}
 use Rattle.icode.specs.Plain.{PlainOp, PlainStmt, PlainBody, PlainProgram, MulTable, Loop, Do, NoStmts, AndStmts}
 use Rattle.icode.proofs.Bools.{both_true}
 use Rattle.fast_loops.specs.TwoTables.Factors.{Cut}
-use Rattle.fast_loops.specs.TwoTables.Places.{is_even}
 use Rattle.fast_loops.specs.TwoTables.TwoTables.{Split, split_at, in_factors, factored_op, two_products, put_before}
 use Rattle.fast_loops.specs.TwoTables.TwoTables.{factored_stmt, factored_body, is_op_even, is_stmt_even, is_body_even}
+use Rattle.fast_loops.proofs.Linear.{by_equal, chosen}
 use Rattle.fast_loops.proofs.TwoTables.Listed.{all-left, all-right, all-in-loop}
 use Rattle.fast_loops.proofs.TwoTables.Products.{IsSplit, other_step, other_product, products}
 use Rattle.fast_loops.proofs.TwoTables.Replaced.{AreFor, for-none, for-append, for-loop}
@@ -38,27 +37,15 @@ module _ (p : PlainProgram) (table : ℕ) (cut : Cut) (is : IsSplit p table cut)
   op-for : (op : PlainOp) (vs : List ℕ) (i : ℕ) → is_op_even p.lanes table op ≡ true → StepFits p (step_of p op vs i) →
       AreFor p there (steps_of_all there (factored_op split op) vs i) (step_of p op vs i ∷ [])
   op-for (MulTable r x of place step) vs i even fit =
-      ⊎_elim
-      (λ (same : (of == table) ≡ true).
-      subst (λ b. AreFor p there (steps_of_all there (chosen b) vs i) old) (sym same)
-      (by_products (eqb-true of table same) (both_true (nat_lt step 2) (is_even p.lanes place) (ap (λ b. if b then (nat_lt step 2 && is_even p.lanes place) else true) (sym same) ∙ even))))
-      (λ (other : (of == table) ≡ false).
-      subst (λ b. AreFor p there (steps_of_all there (chosen b) vs i) old) (sym other)
-      (other_product p table cut is r x of place step vs i (eqb-false of table other) fit))
-      (cases_Bool (of == table))
-    where
-      old : List Step
-      old = step_of p (MulTable r x of place step) vs i ∷ []
-
-      chosen : Bool → List PlainStmt
-      chosen b = if b then two_products split (MulTable r x of place step) else Do (MulTable r x of place step) ∷ []
-
-      by_products : of ≡ table → (nat_lt step 2 ≡ true) × (is_even p.lanes place ≡ true) →
-          AreFor p there (steps_of_all there (two_products split (MulTable r x of place step)) vs i) old
-      by_products e h =
-          subst (λ k. AreFor p there (steps_of_all there (two_products split (MulTable r x of place step)) vs i) (step_of p (MulTable r x k place step) vs i ∷ [])) (sym e)
-          (products p table cut is r x place step vs i (ltb-true step 2 h.0) h.1
-          (subst (λ k. StepFits p (step_of p (MulTable r x k place step) vs i)) e fit))
+      by_equal (λ stmts. AreFor p there (steps_of_all there stmts vs i) (step_of p (MulTable r x of place step) vs i ∷ []))
+      of table (two_products split (MulTable r x of place step)) (Do (MulTable r x of place step) ∷ [])
+      (λ e.
+      let h = both_true (nat_lt step 2) _ (sym (chosen of table _ true e) ∙ even) in
+      subst (λ k. AreFor p there (steps_of_all there (two_products split (MulTable r x of place step)) vs i)
+      (step_of p (MulTable r x k place step) vs i ∷ [])) (sym e)
+      (products p table cut is r x place step vs i (ltb-true step 2 h.0) h.1
+      (subst (λ k. StepFits p (step_of p (MulTable r x k place step) vs i)) e fit)))
+      (λ other. other_product p table cut is r x of place step vs i other fit)
   op-for op vs i even fit = other_step p table cut is op vs i refl fit
 
   mutual

@@ -15,6 +15,7 @@ use Rattle.fast_loops.specs.TwoTables.Places.{are_even, is_even, quotient_by, pl
 use Rattle.fast_loops.specs.TwoTables.TwoTables.{Split, factored_op, two_products, put_before, factored_stmt}
 use Rattle.fast_loops.specs.TwoTables.TwoTables.{factored_body, is_op_even, is_stmt_even, is_body_even}
 use Rattle.fast_loops.proofs.Bools.{later_kept}
+use Rattle.fast_loops.proofs.Linear.{by_equal, chosen}
 use Rattle.fast_loops.proofs.Phases.{all-within}
 
 -- ---- places
@@ -105,16 +106,12 @@ module _ (m lanes : ℕ) (split : Split) (register : is_small split.register ≡
   op_within : (op : PlainOp) (n : ℕ) → is_op_even lanes split.table op ≡ true → is_op_within m op n ≡ true →
       all n (factored_op split op) ≡ true
   op_within (MulTable r x of place step) n even h =
-      ⊎_elim
-      (λ (same : (of == split.table) ≡ true).
-      ap (λ b. all n (chosen b)) same
-      ∙ products_within r x of step n place (eqb-true of split.table same)
-      (both_true (nat_lt step 2) (is_even lanes place) (ap (λ b. if b then (nat_lt step 2 && is_even lanes place) else true) (sym same) ∙ even)).1 h)
-      (λ (other : (of == split.table) ≡ false). ap (λ b. all n (chosen b)) other ∙ alone (MulTable r x of place step) n h)
-      (cases_Bool (of == split.table))
-    where
-      chosen : Bool → List PlainStmt
-      chosen b = if b then two_products split (MulTable r x of place step) else Do (MulTable r x of place step) ∷ []
+      by_equal (λ stmts. all n stmts ≡ true) of split.table (two_products split (MulTable r x of place step))
+      (Do (MulTable r x of place step) ∷ [])
+      (λ same.
+      products_within r x of step n place same
+      (both_true (nat_lt step 2) _ (sym (chosen of split.table _ true same) ∙ even)).1 h)
+      (λ other. alone (MulTable r x of place step) n h)
   op_within op n even h = alone op n h
 
   mutual
