@@ -1,7 +1,5 @@
 -- An interchanged body has as many steps.
-use Rattle.std.proofs.Common.{◌≡◌, ℕ, ◌+◌, ◌*◌, List, [], ◌∷◌, Bool, true, false, length, refl, sym, ap, ap₂, ◌∙◌}
-use Rattle.std.proofs.Common.{arith, mul_left_comm}
-use Rattle.std.specs.Prelude.{if◌then◌else◌}
+use Rattle.std.proofs.Common.{◌≡◌, ℕ, ◌+◌, ◌*◌, List, [], ◌∷◌, length, refl, sym, ap, ap₂, ◌∙◌, arith, mul_left_comm}
 use Rattle.icode.specs.Actions.{steps_of_body}
 use Rattle.icode.specs.Lengths.{len_of_stmt, len_of_body}
 use Rattle.icode.specs.Plain.{PlainStmt, PlainBody, PlainProgram, Loop, Do, NoStmts, AndStmts}
@@ -10,6 +8,7 @@ use Rattle.fast_loops.specs.Places.{exchanged_round}
 use Rattle.fast_loops.specs.Rounds.{first_store, first_load, steps_less, are_independent}
 use Rattle.fast_loops.specs.Interchange.{Nest, counts_in, round_in, looped, nest_stmt, within, sunk, ordered}
 use Rattle.fast_loops.specs.Interchange.{interchanged_nest, interchanged_body}
+use Rattle.fast_loops.proofs.Bools.{by_test}
 use Rattle.fast_loops.proofs.Looped.{looped_is}
 
 round_len : (loop : ℕ) (body : PlainBody) → len_of_body (exchanged_round loop body) ≡ len_of_body body
@@ -32,22 +31,18 @@ turned_len inner outer n =
 abbrev nest_len : Nest → ℕ
 nest_len nest = len_of_body (looped (nest.outer ∷ nest.inner) nest.round)
 
--- two loops that are interchanged, or not
-either_len : (loop outer count : ℕ) (counts : List ℕ) (round : PlainBody) (deeper : Nest) (b : Bool) →
-    nest_len deeper ≡ len_of_body (looped (outer ∷ counts) (exchanged_round loop round)) →
-    nest_len (if b then within count deeper else record { outer = outer; inner = count ∷ counts; round = round })
-    ≡ len_of_body (looped (outer ∷ count ∷ counts) round)
-either_len loop outer count counts round deeper true e =
-    ap (λ n. count * n + 0) (e ∙ looped_len (outer ∷ counts) (exchanged_round loop round) round (round_len loop round))
-    ∙ turned_len count outer (len_of_body (looped counts round))
-either_len loop outer count counts round deeper false e = refl
-
 sunk_len : (loop outer : ℕ) (counts : List ℕ) (round : PlainBody) →
     nest_len (sunk loop outer counts round) ≡ len_of_body (looped (outer ∷ counts) round)
 sunk_len loop outer [] round = refl
 sunk_len loop outer (count ∷ counts) round =
-    either_len loop outer count counts round (sunk (loop + 1) outer counts (exchanged_round loop round)) (steps_less loop (first_load round))
-    (sunk_len (loop + 1) outer counts (exchanged_round loop round))
+    by_test (λ nest. nest_len nest ≡ len_of_body (looped (outer ∷ count ∷ counts) round))
+    (steps_less loop (first_load round)) (within count (sunk (loop + 1) outer counts (exchanged_round loop round)))
+    (record { outer = outer; inner = count ∷ counts; round = round })
+    (λ less.
+    ap (λ n. count * n + 0) (sunk_len (loop + 1) outer counts (exchanged_round loop round)
+    ∙ looped_len (outer ∷ counts) (exchanged_round loop round) round (round_len loop round))
+    ∙ turned_len count outer (len_of_body (looped counts round)))
+    (λ stays. refl)
 
 ordered_len : (loop outer : ℕ) (counts : List ℕ) (round : PlainBody) →
     nest_len (ordered loop outer counts round) ≡ len_of_body (looped (outer ∷ counts) round)
@@ -59,18 +54,21 @@ ordered_len loop outer (count ∷ counts) round =
 
 stmt_len : (lanes : ℕ) (stmt : PlainStmt) → len_of_stmt (interchanged_nest lanes stmt) ≡ len_of_stmt stmt
 stmt_len lanes (Do op) = refl
-stmt_len lanes (Loop count body) = either (are_independent lanes (count ∷ counts_in body) (first_store (round_in body)) (round_in body))
+stmt_len lanes (Loop count body) =
+    by_test (λ stmt. len_of_stmt stmt ≡ len_of_stmt (Loop count body))
+    (are_independent lanes (count ∷ counts_in body) (first_store (round_in body)) (round_in body))
+    (nest_stmt nest) (Loop count body)
+    (λ free.
+    let same = ordered_len 0 count (counts_in body) (round_in body) in
+    let whole : len_of_body (looped (counts_in body) (round_in body)) ≡ len_of_body body =
+    ap len_of_body (looped_is body) in
+    let alone : nest.outer * len_of_body (looped nest.inner nest.round)
+    ≡ count * len_of_body (looped (counts_in body) (round_in body)) = omega (arith, same) in
+    alone ∙ ap (λ n. count * n) whole)
+    (λ bound. refl)
   where
     nest : Nest
     nest = ordered 0 count (counts_in body) (round_in body)
-
-    either : (b : Bool) → len_of_stmt (if b then nest_stmt nest else Loop count body) ≡ len_of_stmt (Loop count body)
-    either true =
-        let same = ordered_len 0 count (counts_in body) (round_in body) in
-        let whole : len_of_body (looped (counts_in body) (round_in body)) ≡ len_of_body body = ap len_of_body (looped_is body) in
-        let alone : nest.outer * len_of_body (looped nest.inner nest.round) ≡ count * len_of_body (looped (counts_in body) (round_in body)) = omega (arith, same) in
-        alone ∙ ap (λ n. count * n) whole
-    either false = refl
 
 body_len : (lanes : ℕ) (body : PlainBody) → len_of_body (interchanged_body lanes body) ≡ len_of_body body
 body_len lanes NoStmts = refl

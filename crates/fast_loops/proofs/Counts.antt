@@ -1,12 +1,13 @@
 -- The loops of a body: their counts, and the statements in the innermost.
-use Rattle.std.proofs.Common.{◌≡◌, ℕ, ◌+◌, List, [], ◌∷◌, Bool, true, false, ap, ap₂, ◌∙◌, refl, length, suc}
+use Rattle.std.proofs.Common.{◌≡◌, ℕ, ◌+◌, List, [], ◌∷◌, true, false, ap, ap₂, ◌∙◌, refl, length, suc}
 use Rattle.std.specs.Prelude.{◌*◌, ◌&&◌, nat_le, Option, Some, None, if◌then◌else◌}
 use Rattle.icode.specs.Plain.{PlainParts, PlainBody, Loop, Do, NoStmts, AndStmts}
-use Rattle.fast_loops.specs.Interchange.{counts_in, round_in, looped, within, sunk, ordered, interchanged_nest}
+use Rattle.fast_loops.specs.Interchange.{Nest, counts_in, round_in, looped, within, sunk, ordered, interchanged_nest}
 use Rattle.fast_loops.specs.Places.{stride, are_linear, exchanged_round}
 use Rattle.fast_loops.specs.Rounds.{Stored, first_store, first_load, steps_less, are_nested, last_stride, are_placed}
 use Rattle.fast_loops.specs.Rounds.{are_apart, are_independent}
 use Rattle.fast_loops.specs.View.{are_nested_in, last_stride_in, are_apart_in, are_independent_in, ordered_loop}
+use Rattle.fast_loops.proofs.Bools.{by_test}
 
 -- no loop stands around innermost statements
 pub round-inner : (body : PlainBody) → counts_in (round_in body) ≡ []
@@ -45,12 +46,9 @@ inner-exchanged loop (AndStmts (Loop count body) (AndStmts (Loop inner within) r
 pub inner-sunk : (loop outer : ℕ) (counts : List ℕ) (round : PlainBody) → counts_in round ≡ [] →
     counts_in (sunk loop outer counts round).round ≡ []
 inner-sunk loop outer [] round e = e
-inner-sunk loop outer (count ∷ counts) round e = by_test (steps_less loop (first_load round)) (inner-sunk (loop + 1) outer counts (exchanged_round loop round) (inner-exchanged loop round e))
-  where
-    by_test : (t : Bool) → counts_in (sunk (loop + 1) outer counts (exchanged_round loop round)).round ≡ [] →
-        counts_in (if t then within count (sunk (loop + 1) outer counts (exchanged_round loop round)) else record { outer = outer; inner = count ∷ counts; round = round }).round ≡ []
-    by_test true h = h
-    by_test false h = e
+inner-sunk loop outer (count ∷ counts) round e =
+    by_test (λ (nest : Nest). counts_in nest.round ≡ []) (steps_less loop (first_load round)) _ _
+    (λ less. inner-sunk (loop + 1) outer counts (exchanged_round loop round) (inner-exchanged loop round e)) (λ stays. e)
 
 pub inner-ordered : (loop outer : ℕ) (counts : List ℕ) (round : PlainBody) → counts_in round ≡ [] →
     counts_in (ordered loop outer counts round).round ≡ []
@@ -64,12 +62,9 @@ inner-ordered loop outer (count ∷ counts) round e =
 pub long-sunk : (loop outer : ℕ) (counts : List ℕ) (round : PlainBody) →
     length (sunk loop outer counts round).inner ≡ length counts
 long-sunk loop outer [] round = refl
-long-sunk loop outer (count ∷ counts) round = by_test (steps_less loop (first_load round)) (long-sunk (loop + 1) outer counts (exchanged_round loop round))
-  where
-    by_test : (t : Bool) → length (sunk (loop + 1) outer counts (exchanged_round loop round)).inner ≡ length counts →
-        length (if t then within count (sunk (loop + 1) outer counts (exchanged_round loop round)) else record { outer = outer; inner = count ∷ counts; round = round }).inner ≡ suc (length counts)
-    by_test true h = ap suc h
-    by_test false h = refl
+long-sunk loop outer (count ∷ counts) round =
+    by_test (λ (nest : Nest). length nest.inner ≡ suc (length counts)) (steps_less loop (first_load round)) _ _
+    (λ less. ap suc (long-sunk (loop + 1) outer counts (exchanged_round loop round))) (λ stays. refl)
 
 pub long-ordered : (loop outer : ℕ) (counts : List ℕ) (round : PlainBody) →
     length (ordered loop outer counts round).inner ≡ length counts

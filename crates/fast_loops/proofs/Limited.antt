@@ -1,7 +1,7 @@
 -- Interchanged loops stand within the limits of programs.
-use Rattle.std.proofs.Common.{◌≡◌, ◌≢◌, ℕ, suc, ◌+◌, ◌<◌, ◌≤◌, List, [], ◌∷◌, Bool, true, false, ap, sym, ap₂, ◌∙◌}
-use Rattle.std.proofs.Common.{arith, refl, ltb-true, lt-ltb, map, length}
-use Rattle.std.specs.Prelude.{◌&&◌, nat_lt, nat_le, max, if◌then◌else◌}
+use Rattle.std.proofs.Common.{◌≡◌, ◌≢◌, ℕ, suc, ◌+◌, ◌<◌, ◌≤◌, List, [], ◌∷◌, Bool, true, ap, sym, ap₂, ◌∙◌, arith}
+use Rattle.std.proofs.Common.{refl, ltb-true, lt-ltb, map, length}
+use Rattle.std.specs.Prelude.{◌&&◌, nat_lt, nat_le, max}
 use Rattle.std.specs.List.{list_all}
 use Rattle.std.proofs.lemmas.Bool.{leb-true, le-leb, and_parts, and_from}
 use Rattle.icode.specs.Limits.{rank, next_rank, is_small, is_small_positive, is_part_within, are_parts_within}
@@ -14,7 +14,7 @@ use Rattle.fast_loops.specs.Interchange.{interchanged_nest, interchanged_body}
 use Rattle.fast_loops.specs.Places.{exchanged_first, exchanged_parts, exchanged_place, exchanged_op, exchanged_round}
 use Rattle.fast_loops.specs.Rounds.{first_store, first_load, steps_less, are_independent}
 use Rattle.fast_loops.specs.View.{loops_in, is_shallow, are_shallow}
-use Rattle.fast_loops.proofs.Bools.{both_kept, later_kept}
+use Rattle.fast_loops.proofs.Bools.{both_kept, later_kept, by_test}
 use Rattle.fast_loops.proofs.Linear.{first_cases, parts_cases}
 use Rattle.fast_loops.proofs.Looped.{looped_is}
 use Rattle.fast_loops.proofs.Phases.{all-within}
@@ -263,20 +263,21 @@ sunk-within : (m n loop outer : ℕ) (counts : List ℕ) (round : PlainBody) →
     IsNestWithin m n (length counts) (sunk loop outer counts round)
 sunk-within m n loop outer [] round deep top small h = record { small = small; many_are = refl; within = h }
 sunk-within m n loop outer (count ∷ counts) round deep top small h =
-    by_test (steps_less loop (first_load round))
-    (sunk-within m n (loop + 1) outer counts (exchanged_round loop round) (omega (arith, deep)) top (and_from (is_small_positive outer) _ first.0 second.1) (round-within m loop n round (omega (arith, deep)) top h))
-  where
-    first : (is_small_positive outer ≡ true) × (list_all is_small_positive (count ∷ counts) ≡ true)
-    first = and_parts (is_small_positive outer) _ small
-
-    second : (is_small_positive count ≡ true) × (list_all is_small_positive counts ≡ true)
-    second = and_parts (is_small_positive count) _ first.1
-
-    by_test : (t : Bool) → IsNestWithin m n (length counts) (sunk (loop + 1) outer counts (exchanged_round loop round))
-        →
-        IsNestWithin m n (suc (length counts)) (if t then within count (sunk (loop + 1) outer counts (exchanged_round loop round)) else record { outer = outer; inner = count ∷ counts; round = round })
-    by_test true k = record { small = and_from (is_small_positive count) _ second.0 k.small; many_are = ap suc k.many_are; within = k.within }
-    by_test false k = record { small = small; many_are = refl; within = h }
+    let first = and_parts (is_small_positive outer) _ small in
+    let second = and_parts (is_small_positive count) _ first.1 in
+    by_test (IsNestWithin m n (suc (length counts))) (steps_less loop (first_load round))
+    (within count (sunk (loop + 1) outer counts (exchanged_round loop round)))
+    (record { outer = outer; inner = count ∷ counts; round = round })
+    (λ less.
+    let k =
+    sunk-within m n (loop + 1) outer counts (exchanged_round loop round) (omega (arith, deep)) top
+    (and_from (is_small_positive outer) _ first.0 second.1) (round-within m loop n round (omega (arith, deep)) top h) in
+    record {
+      small = and_from (is_small_positive count) _ second.0 k.small;
+      many_are = ap suc k.many_are;
+      within = k.within;
+    })
+    (λ stays. record { small = small; many_are = refl; within = h })
 
 ordered-within : (m n loop outer : ℕ) (counts : List ℕ) (round : PlainBody) → loop + length counts < n → n ≤ 64 →
     list_all is_small_positive (outer ∷ counts) ≡ true → is_body_within m round n ≡ true →
@@ -295,25 +296,38 @@ pub nest-within : (m lanes : ℕ) (stmt : PlainStmt) → is_stmt_within m stmt 0
     is_stmt_within m (interchanged_nest lanes stmt) 0 ≡ true
 nest-within m lanes (Do op) h = h
 nest-within m lanes (Loop count body) h =
-    by_test (are_independent lanes (count ∷ counts_in body) (first_store (round_in body)) (round_in body))
+    by_test (λ stmt. is_stmt_within m stmt 0 ≡ true)
+    (are_independent lanes (count ∷ counts_in body) (first_store (round_in body)) (round_in body))
+    (nest_stmt made) (Loop count body)
+    (λ free.
+    only-within m 0 (nest_stmt made)
+    (looped-is m 0 (made.outer ∷ made.inner) made.round
+    (record {
+      small = turned.small;
+      deep = let deep = known.deep in omega (arith, deep, many);
+      within = ap (λ n. is_body_within m made.round n) (sym same) ∙ turned.within;
+    })))
+    (λ bound. h)
   where
     known : AreLoopsWithin m 0 (count ∷ counts_in body) (round_in body)
-    known = looped-within m 0 (count ∷ counts_in body) (round_in body) (omega arith) (ap (λ b. is_body_within m (AndStmts (Loop count b) NoStmts) 0) (looped_is body) ∙ only-is m 0 (Loop count body) h)
+    known =
+        looped-within m 0 (count ∷ counts_in body) (round_in body) (omega arith)
+        (ap (λ b. is_body_within m (AndStmts (Loop count b) NoStmts) 0) (looped_is body)
+        ∙ only-is m 0 (Loop count body) h)
 
-    turned : IsNestWithin m (0 + length (count ∷ counts_in body)) (length (counts_in body))
-        (ordered 0 count (counts_in body) (round_in body))
-    turned = ordered-within m (0 + length (count ∷ counts_in body)) 0 count (counts_in body) (round_in body) (omega arith) known.deep known.small known.within
+    made : Nest
+    made = ordered 0 count (counts_in body) (round_in body)
 
-    by_test : (t : Bool) →
-        is_stmt_within m (if t then nest_stmt (ordered 0 count (counts_in body) (round_in body)) else Loop count body) 0
-        ≡ true
-    by_test false = h
-    by_test true =
-        let made = ordered 0 count (counts_in body) (round_in body) in
-        let same : 0 + length (count ∷ counts_in body) ≡ 0 + length (made.outer ∷ made.inner) = ap (λ n. 0 + suc n) (sym turned.many_are) in
-        only-within m 0 (nest_stmt made)
-        (looped-is m 0 (made.outer ∷ made.inner) made.round
-        (record { small = turned.small; deep = (let deep = known.deep in let many = turned.many_are in omega (arith, deep, many)); within = ap (λ n. is_body_within m made.round n) (sym same) ∙ turned.within }))
+    turned : IsNestWithin m (0 + length (count ∷ counts_in body)) (length (counts_in body)) made
+    turned =
+        ordered-within m (0 + length (count ∷ counts_in body)) 0 count (counts_in body) (round_in body) (omega arith)
+        known.deep known.small known.within
+
+    many : length made.inner ≡ length (counts_in body)
+    many = turned.many_are
+
+    same : 0 + length (count ∷ counts_in body) ≡ 0 + length (made.outer ∷ made.inner)
+    same = ap (λ n. 0 + suc n) (sym many)
 
 body-within : (m lanes : ℕ) (body : PlainBody) → is_body_within m body 0 ≡ true →
     is_body_within m (interchanged_body lanes body) 0 ≡ true

@@ -24,8 +24,8 @@ use Rattle.fast_loops.proofs.Changes.{for-nil, for-append, for-exchange, for-tra
 use Rattle.fast_loops.proofs.Looped.{looped_is}
 use Rattle.fast_loops.proofs.Ranges.{long_range, in_both, in_more, turned, turned_back, turned_in_range, split_range}
 use Rattle.fast_loops.proofs.Ranges.{others_behind}
-use Rattle.fast_loops.proofs.Rows.{StepsFit, all_fit, For, acts_of, rows, loops_for, alone_for, rows_itself}
-use Rattle.fast_loops.proofs.Rows.{in_rows, rows_sure, rows_commute}
+use Rattle.fast_loops.proofs.Rows.{StepsFit, all_fit, For, acts_of, rows, loops_for, alone_for, rows_itself, in_rows}
+use Rattle.fast_loops.proofs.Rows.{rows_sure, rows_commute}
 
 -- the rounds of loops of these counts are apart from one another
 abbrev AllApart : PlainProgram → ℕ → List ℕ → PlainBody → Type 0

@@ -1,7 +1,7 @@
 -- The blocks of a nest: where the words of its rounds lie.
-use Rattle.std.proofs.Common.{◌≡◌, ℕ, ◌+◌, ◌-◌, ◌*◌, ◌%◌, ◌<◌, ◌≤◌, true, List, [], ◌∷◌, ◌++◌, All, Contains}
-use Rattle.std.proofs.Common.{flat_map, length, inl, inr, refl, sym, ap, ◌∙◌, subst, arith, ⊎_elim, append-nil}
-use Rattle.std.proofs.Common.{append_assoc, length-append}
+use Rattle.std.proofs.Common.{◌≡◌, ℕ, ◌+◌, ◌-◌, ◌*◌, ◌%◌, ◌<◌, ◌≤◌, true, List, [], ◌∷◌, ◌++◌, All, Contains, flat_map}
+use Rattle.std.proofs.Common.{length, inl, inr, refl, sym, ap, ◌∙◌, subst, arith, ⊎_elim, append-nil, append_assoc}
+use Rattle.std.proofs.Common.{length-append}
 use Rattle.std.specs.List.{range_with_len}
 use Rattle.std.proofs.lemmas.Nat.{mod-mul-add}
 use Rattle.std.proofs.lemmas.List.Elements.{All-head, All-tail, Contains-append_left, Contains-append_cases}
@@ -12,8 +12,8 @@ use Rattle.icode.specs.declared.program.Array.TheVariants.{X, Y, A, B}
 use Rattle.icode.specs.Actions.{Step, StepFits, actions_of, array_start, step_of, steps_of_body}
 use Rattle.icode.specs.Expression.{parts_numbers}
 use Rattle.icode.specs.Machine.{stored_words, whole_lines}
-use Rattle.icode.specs.Plain.{PlainParts, PlainOp, PlainBody, PlainProgram, Sum, Load, Store}
-use Rattle.icode.specs.Plain.{Loop, Do, NoStmts, AndStmts}
+use Rattle.icode.specs.Plain.{PlainParts, PlainOp, PlainBody, PlainProgram, Sum, Load, Store, Loop, Do, NoStmts}
+use Rattle.icode.specs.Plain.{AndStmts}
 use Rattle.icode.proofs.Bools.{both_true}
 use Rattle.icode.proofs.Lines.{Contains-nil}
 use Rattle.fast_loops.specs.declared.fused_loops.blocks.Block.{Block}

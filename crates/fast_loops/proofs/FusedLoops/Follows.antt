@@ -1,15 +1,16 @@
 -- Places that go steps of loops: how far they are from the first word of the round's block.
-use Rattle.std.proofs.Common.{◌≡◌, ℕ, zero, suc, ◌+◌, ◌-◌, ◌*◌, ◌<◌, ◌≤◌, Bool, true, false, ◌&&◌, List, [], ◌∷◌, ◌++◌}
-use Rattle.std.proofs.Common.{length, refl, ap, ap₂, ◌∙◌, arith, eqb-true, leb-true}
-use Rattle.std.specs.Prelude.{slice_index, nat_le, ◌==◌, if◌then◌else◌}
+use Rattle.std.proofs.Common.{◌≡◌, ℕ, zero, suc, ◌+◌, ◌-◌, ◌*◌, ◌<◌, ◌≤◌, true, ◌&&◌, List, [], ◌∷◌, ◌++◌, length, refl}
+use Rattle.std.proofs.Common.{ap, ap₂, ◌∙◌, arith, eqb-true, leb-true}
+use Rattle.std.specs.Prelude.{slice_index, nat_le, ◌==◌}
 use Rattle.std.proofs.Math.Nat.{mul-le-mul_right}
 use Rattle.icode.specs.CodeLaws.Nests.{AreInRange}
 use Rattle.icode.specs.Expression.{parts_numbers, one_numbers}
 use Rattle.icode.specs.Plain.{PlainExpr, PlainParts, PlainPart, PlainOp, PlainBody, Sum, NoParts, AndParts, Var, Load}
-use Rattle.icode.specs.Plain.{Store, Zero, Add, Sub, Neg, MulConst, MulTable, Tile, Loop, Do, NoStmts, AndStmts}
+use Rattle.icode.specs.Plain.{Store, Loop, Do, NoStmts, AndStmts}
 use Rattle.icode.proofs.Bools.{both_true}
 use Rattle.fast_loops.specs.FusedLoops.Blocks.{are_values, most, is_step, followed, followed_by, followed_op}
 use Rattle.fast_loops.specs.FusedLoops.Blocks.{followed_in}
+use Rattle.fast_loops.proofs.Bools.{by_test}
 use Rattle.fast_loops.proofs.Linear.{wrong}
 
 -- ---- fronts of steps
@@ -62,16 +63,14 @@ keeps : (counts : List ℕ) (words loop : ℕ) (steps : List ℕ) (parts : Plain
 keeps counts words loop [] parts = record { front = tt; all = tt }
 keeps counts words loop (step ∷ steps) NoParts = record { front = tt; all = tt }
 keeps counts words loop (step ∷ steps) (AndParts part rest) =
-    of_test (keeps counts words (loop + 1) steps rest) (is_step loop step part && nat_le (words + most counts rest) step) refl
-  where
-    of_test : Keeps counts words (loop + 1) steps rest (followed counts words (loop + 1) steps rest) →
-        (b : Bool) → (is_step loop step part && nat_le (words + most counts rest) step) ≡ b →
-        Keeps counts words loop (step ∷ steps) (AndParts part rest)
-        (if b then step ∷ followed counts words (loop + 1) steps rest else [])
-    of_test more false e = record { front = tt; all = tt }
-    of_test more true e =
-        let two = both_true (is_step loop step part) (nat_le (words + most counts rest) step) e in
-        record { front = (refl, more.front); all = (two.0, leb-true (words + most counts rest) step two.1, more.all) }
+    by_test (Keeps counts words loop (step ∷ steps) (AndParts part rest))
+    (is_step loop step part && nat_le (words + most counts rest) step)
+    (step ∷ followed counts words (loop + 1) steps rest) []
+    (λ e.
+    let more = keeps counts words (loop + 1) steps rest in
+    let two = both_true (is_step loop step part) (nat_le (words + most counts rest) step) e in
+    record { front = (refl, more.front); all = (two.0, leb-true (words + most counts rest) step two.1, more.all) })
+    (λ e. record { front = tt; all = tt })
 
 -- ---- rounds of which all places go steps
 
@@ -114,16 +113,12 @@ as-place lanes counts constant parts (step ∷ steps) values h = (values, h)
 
 place-keeps : (lanes : ℕ) (counts : List ℕ) (place : PlainExpr) (steps : List ℕ) →
     KeepsFor (λ kept. PlaceFollows lanes counts kept place) steps (followed_by lanes counts place steps)
-place-keeps lanes counts (Sum constant parts) steps = of_test (are_values parts) refl
-  where
-    kept : Keeps counts (constant + lanes) 0 steps parts (followed counts (constant + lanes) 0 steps parts)
-    kept = keeps counts (constant + lanes) 0 steps parts
-
-    of_test : (b : Bool) → are_values parts ≡ b →
-        KeepsFor (λ kept. PlaceFollows lanes counts kept (Sum constant parts)) steps
-        (if b then followed counts (constant + lanes) 0 steps parts else [])
-    of_test false e = record { front = tt; all = tt }
-    of_test true e = record { front = kept.front; all = as-place lanes counts constant parts (followed counts (constant + lanes) 0 steps parts) e kept.all }
+place-keeps lanes counts (Sum constant parts) steps =
+    let made : List ℕ = followed counts (constant + lanes) 0 steps parts in
+    let kept = keeps counts (constant + lanes) 0 steps parts in
+    by_test (KeepsFor (λ kept. PlaceFollows lanes counts kept (Sum constant parts)) steps) (are_values parts) made []
+    (λ e. record { front = kept.front; all = as-place lanes counts constant parts made e kept.all })
+    (λ e. record { front = tt; all = tt })
 
 op-keeps : (lanes : ℕ) (counts : List ℕ) (op : PlainOp) (steps : List ℕ) →
     KeepsFor (λ kept. OpFollows lanes counts kept op) steps (followed_op lanes counts op steps)

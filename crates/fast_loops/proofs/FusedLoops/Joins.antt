@@ -1,8 +1,8 @@
 -- A nest that goes into the loops of others, whose blocks it shares: it does what it did after them.
-use Rattle.std.proofs.Common.{◌≡◌, ℕ, zero, suc, ◌+◌, ◌*◌, ◌<◌, Bool, true, false, ◌&&◌, List, [], ◌∷◌, ◌++◌}
-use Rattle.std.proofs.Common.{Contains, flat_map, length, refl, sym, ap, ap₂, ◌∙◌, subst, arith, eqb-true, ⊎_elim}
-use Rattle.std.proofs.Common.{append-nil, append_assoc, length-append}
-use Rattle.std.specs.Prelude.{◌==◌, if◌then◌else◌}
+use Rattle.std.proofs.Common.{◌≡◌, ℕ, zero, suc, ◌+◌, ◌*◌, ◌<◌, true, ◌&&◌, List, [], ◌∷◌, ◌++◌, Contains, flat_map}
+use Rattle.std.proofs.Common.{length, refl, sym, ap, ap₂, ◌∙◌, subst, arith, eqb-true, ⊎_elim, append-nil, append_assoc}
+use Rattle.std.proofs.Common.{length-append}
+use Rattle.std.specs.Prelude.{◌==◌}
 use Rattle.std.specs.List.{range_with_len}
 use Rattle.std.proofs.Math.Path.{fun_ext}
 use Rattle.std.proofs.lemmas.List.Elements.{Contains-append_left, Contains-append_right, Contains-append_cases}
@@ -22,6 +22,7 @@ use Rattle.fast_loops.specs.Rounds.{are_fresh}
 use Rattle.fast_loops.specs.FusedLoops.Blocks.{shared}
 use Rattle.fast_loops.specs.FusedLoops.FusedLoops.{put_behind, in_last, all_joined}
 use Rattle.fast_loops.proofs.Acts.{DoTheSame, memory_by}
+use Rattle.fast_loops.proofs.Bools.{by_test}
 use Rattle.fast_loops.proofs.Changes.{actions_of-append, actions_of-loop, in-loop, of-loop, for-trans}
 use Rattle.fast_loops.proofs.Folds.{IsSure, Commute, parted}
 use Rattle.fast_loops.proofs.Looped.{looped_is}
@@ -344,21 +345,15 @@ module _ (p : PlainProgram) (q : ℕ) where
   grows (AndStmts (Do op) rest) (b ∷ bs) (c ∷ cs) made vs base fresh end has = absurd has
   grows (AndStmts (Loop count inner) (AndStmts stmt rest)) (b ∷ bs) (c ∷ cs) made vs base fresh end has = absurd has
   grows (AndStmts (Loop count inner) NoStmts) (b ∷ bs) (c ∷ cs) made vs base fresh end has =
-      of_test (λ i inside end_in has_in. grows inner bs cs inside (vs ++ i ∷ []) (base + i * c.step) fresh end_in has_in) ((b.count == c.count) && (b.step == c.step)) refl
-    where
-      body : PlainBody
-      body = AndStmts (Loop count inner) NoStmts
-
-      of_test : ((i : ℕ) (inside : PlainBody) → Ends bs inside (vs ++ i ∷ []) (base + i * c.step) →
-          HasBlocks p q cs inner (vs ++ i ∷ []) (base + i * c.step) →
-          IsGrown (shared bs cs) inner cs inside (vs ++ i ∷ []) (base + i * c.step)) →
-          (t : Bool) → ((b.count == c.count) && (b.step == c.step)) ≡ t →
-          IsGrown (if t then suc (shared bs cs) else 0) body (c ∷ cs) made vs base
-      of_test deeper false e = put-grown body (c ∷ cs) made vs base fresh has
-      of_test deeper true e =
-          let two = both_true (b.count == c.count) (b.step == c.step) e in
-          let end_too : Ends (c ∷ bs) made vs base = subst (λ x. Ends (x ∷ bs) made vs base) (same-block b c two.0 two.1) end in
-          subst (λ n. IsGrown (suc (shared bs cs)) (AndStmts (Loop n inner) NoStmts) (c ∷ cs) made vs base) (sym has.0)
-          (into-grown (shared bs cs) c bs cs inner made vs base fresh end_too
-          (subst (λ n. HasBlocks p q (c ∷ cs) (AndStmts (Loop n inner) NoStmts) vs base) has.0 has)
-          (λ i lt inside end_in has_in. deeper i inside end_in has_in))
+      let body : PlainBody = AndStmts (Loop count inner) NoStmts in
+      by_test (λ n. IsGrown n body (c ∷ cs) made vs base) ((b.count == c.count) && (b.step == c.step))
+      (suc (shared bs cs)) 0
+      (λ e.
+      let two = both_true (b.count == c.count) (b.step == c.step) e in
+      let end_too : Ends (c ∷ bs) made vs base =
+      subst (λ x. Ends (x ∷ bs) made vs base) (same-block b c two.0 two.1) end in
+      subst (λ n. IsGrown (suc (shared bs cs)) (AndStmts (Loop n inner) NoStmts) (c ∷ cs) made vs base) (sym has.0)
+      (into-grown (shared bs cs) c bs cs inner made vs base fresh end_too
+      (subst (λ n. HasBlocks p q (c ∷ cs) (AndStmts (Loop n inner) NoStmts) vs base) has.0 has)
+      (λ i lt inside end_in has_in. grows inner bs cs inside (vs ++ i ∷ []) (base + i * c.step) fresh end_in has_in)))
+      (λ e. put-grown body (c ∷ cs) made vs base fresh has)

@@ -8,7 +8,7 @@ use Rattle.icode.proofs.Bools.{both_true}
 use Rattle.fast_loops.specs.declared.fused_loops.blocks.Block.{Block}
 use Rattle.fast_loops.specs.FusedLoops.Blocks.{blocks_of, shared}
 use Rattle.fast_loops.specs.FusedLoops.FusedLoops.{put_behind, with_body, in_last, joined, all_joined, waiting}
-use Rattle.fast_loops.specs.FusedLoops.FusedLoops.{fused_onto, fused_phase, fused_phases}
+use Rattle.fast_loops.specs.FusedLoops.FusedLoops.{fused_onto, fused_phases}
 use Rattle.fast_loops.proofs.Bools.{both_kept, later_kept}
 
 module _ (m : ℕ) where

@@ -1,7 +1,7 @@
 -- A program whose nests are fused leaves what it left.
-use Rattle.std.proofs.Common.{◌≡◌, ℕ, suc, ◌<◌, ◌&&◌, List, [], ◌∷◌, ◌++◌, Bool, true, false, Contains, map}
-use Rattle.std.proofs.Common.{length, refl, sym, ap, ◌∙◌, subst, arith, append-nil, append_assoc, eqb-true}
-use Rattle.std.specs.Prelude.{◌==◌, nat_le, slice_index_or, if◌then◌else◌}
+use Rattle.std.proofs.Common.{◌≡◌, ℕ, suc, ◌<◌, ◌&&◌, List, [], ◌∷◌, ◌++◌, true, Contains, map, length, refl, sym, ap}
+use Rattle.std.proofs.Common.{◌∙◌, subst, arith, append-nil, append_assoc, eqb-true}
+use Rattle.std.specs.Prelude.{◌==◌, nat_le, slice_index_or}
 use Rattle.std.proofs.lemmas.List.{length-map}
 use Rattle.std.proofs.lemmas.List.Elements.{All-contains, Contains-append_left, Contains-append_right}
 use Rattle.icode.specs.Actions.{Step, StepFits, PlainFits, actions_of, plain_code, steps_of_stmt, steps_of_body}
@@ -18,6 +18,7 @@ use Rattle.fast_loops.specs.FusedLoops.FusedLoops.{may_be_fused, fused}
 use Rattle.fast_loops.specs.TwoTables.Laws.{IsInPlaceOf}
 use Rattle.fast_loops.proofs.Acts.{memory_by}
 use Rattle.fast_loops.proofs.Folds.{IsSure}
+use Rattle.fast_loops.proofs.Bools.{by_test}
 use Rattle.fast_loops.proofs.InPlace.{of-members, no-more, in-place, itself, where-true}
 use Rattle.fast_loops.proofs.Linear.{wrong}
 use Rattle.fast_loops.proofs.Phases.{with_phases, phase-is, row, listed}
@@ -78,23 +79,15 @@ module _ (p : PlainProgram) (q : ℕ) where
       LeavesFor p q (steps (fused_onto p.lanes (waiting p.lanes body) [] made body)) (steps made ++ steps body)
   waiting-onto NoStmts made fit = leaves-itself p q _ _ (sym (append-nil (steps made)))
   waiting-onto (AndStmts stmt rest) made fit =
-      of_test
-      (waiting-onto rest (put_behind stmt made) (λ s has. fit s (Contains-append_right first (steps rest) s has)))
-      (is_nest p.lanes stmt && are_nests p.lanes rest) refl
-    where
-      first : List Step
-      first = steps_of_stmt p stmt [] q
-
-      of_test : LeavesFor p q (steps (fused_onto p.lanes (waiting p.lanes rest) [] (put_behind stmt made) rest))
-          (steps (put_behind stmt made) ++ steps rest) →
-          (t : Bool) → (is_nest p.lanes stmt && are_nests p.lanes rest) ≡ t →
-          LeavesFor p q (steps (fused_onto p.lanes (if t then 0 else suc (waiting p.lanes rest)) [] made
-          (AndStmts stmt rest))) (steps made ++ (first ++ steps rest))
-      of_test more true e = nests-onto (AndStmts stmt rest) [] made e tt fit
-      of_test more false e =
-          subst (LeavesFor p q (steps (fused_onto p.lanes (waiting p.lanes rest) [] (put_behind stmt made) rest)))
-          (ap (λ xs. xs ++ steps rest) (put-steps p q stmt made []) ∙ append_assoc (steps made) first (steps rest))
-          more
+      let first : List Step = steps_of_stmt p stmt [] q in
+      by_test (λ n. LeavesFor p q (steps (fused_onto p.lanes n [] made (AndStmts stmt rest)))
+      (steps made ++ (first ++ steps rest))) (is_nest p.lanes stmt && are_nests p.lanes rest) 0
+      (suc (waiting p.lanes rest))
+      (λ e. nests-onto (AndStmts stmt rest) [] made e tt fit)
+      (λ e.
+      subst (LeavesFor p q (steps (fused_onto p.lanes (waiting p.lanes rest) [] (put_behind stmt made) rest)))
+      (ap (λ xs. xs ++ steps rest) (put-steps p q stmt made []) ∙ append_assoc (steps made) first (steps rest))
+      (waiting-onto rest (put_behind stmt made) (λ s has. fit s (Contains-append_right first (steps rest) s has))))
 
   fused-for : (body : PlainBody) → StepsFit p (steps body) →
       LeavesFor p q (steps (fused_phase p.lanes body)) (steps body)

@@ -1,7 +1,7 @@
 -- Joined loops stand within the limits of programs.
-use Rattle.std.proofs.Common.{◌≡◌, ◌⊎◌, inl, inr, ℕ, ◌+◌, ◌*◌, ◌<◌, ◌≤◌, List, [], Bool, true, false, Some, None, ap}
-use Rattle.std.proofs.Common.{sym, subst, ◌∙◌, arith, refl, ltb-true, lt-ltb, map, length, mul-le-mul_left}
-use Rattle.std.specs.Prelude.{◌%◌, ◌==◌, ◌&&◌, not, nat_lt, nat_le, max, if◌then◌else◌}
+use Rattle.std.proofs.Common.{◌≡◌, ◌⊎◌, inl, inr, ℕ, ◌+◌, ◌*◌, ◌<◌, ◌≤◌, List, [], true, Some, None, ap, sym, subst}
+use Rattle.std.proofs.Common.{◌∙◌, arith, refl, ltb-true, lt-ltb, map, length, mul-le-mul_left}
+use Rattle.std.specs.Prelude.{◌%◌, ◌==◌, ◌&&◌, not, nat_lt, nat_le, max}
 use Rattle.std.specs.Option.{unwrap_or}
 use Rattle.std.proofs.lemmas.Bool.{leb-true, le-leb, and_parts, and_from}
 use Rattle.icode.specs.Limits.{is_small, is_small_positive, are_parts_within, all_parts, parts_depth, is_expr_within}
@@ -12,9 +12,8 @@ use Rattle.fast_loops.specs.Places.{are_linear}
 use Rattle.fast_loops.specs.JoinedLoops.JoinedLoops.{place_goes_on, op_goes_on, body_goes_on, lifted_parts}
 use Rattle.fast_loops.specs.JoinedLoops.JoinedLoops.{lifted_place, lifted_op, lifted_body, as_one, joined_stmt}
 use Rattle.fast_loops.specs.JoinedLoops.JoinedLoops.{joined_body}
-use Rattle.fast_loops.proofs.Bools.{both_kept, later_kept}
-use Rattle.fast_loops.proofs.Limited.{IsVarWithin, IsLoopWithin, and_three, one-within, var-within, loop-within}
-use Rattle.fast_loops.proofs.Limited.{loop-is, only-within}
+use Rattle.fast_loops.proofs.Bools.{both_kept, later_kept, by_test}
+use Rattle.fast_loops.proofs.Limited.{IsVarWithin, and_three, one-within, var-within, loop-within, loop-is, only-within}
 use Rattle.fast_loops.proofs.Linear.{wrong, from_least, proc_first}
 use Rattle.fast_loops.proofs.Phases.{all-within}
 use Rattle.fast_loops.proofs.JoinedLoops.Numbers.{LiftedVar, lifted_var}
@@ -143,27 +142,21 @@ one-is m loop count NoStmts h = h
 one-is m loop count (AndStmts (Do op) rest) h = h
 one-is m loop count (AndStmts (Loop inner body) (AndStmts stmt rest)) h = h
 one-is m loop count (AndStmts (Loop inner body) NoStmts) h =
-    by_test (not (inner % 16 == 0) && (is_small (count * inner) && body_goes_on loop inner body)) refl
-  where
-    outer : IsLoopWithin m count loop (AndStmts (Loop inner body) NoStmts)
-    outer = loop-within m count loop (AndStmts (Loop inner body) NoStmts) h
-
-    inside : IsLoopWithin m inner (loop + 1) body
-    inside = loop-within m inner (loop + 1) body (only-within m (loop + 1) (Loop inner body) outer.within)
-
-    by_test : (t : Bool) →
-        (not (inner % 16 == 0) && (is_small (count * inner) && body_goes_on loop inner body)) ≡ t →
-        is_stmt_within m (unwrap_or (if t then Some (Loop (count * inner) (lifted_body loop body)) else None)
-        (Loop count (AndStmts (Loop inner body) NoStmts))) loop ≡ true
-    by_test false e = h
-    by_test true e =
-        let told = and_parts (is_small (count * inner)) _ (and_parts (not (inner % 16 == 0)) _ e).1 in
-        loop-is m (count * inner) loop (lifted_body loop body)
-        (record {
-          small = positive count inner outer.small inside.small told.0;
-          deep = outer.deep;
-          within = body-lifted m loop inner (loop + 1) body (omega arith) told.1 inside.within;
-        })
+    let whole : PlainStmt = Loop count (AndStmts (Loop inner body) NoStmts) in
+    let outer = loop-within m count loop (AndStmts (Loop inner body) NoStmts) h in
+    let inside = loop-within m inner (loop + 1) body (only-within m (loop + 1) (Loop inner body) outer.within) in
+    by_test (λ made. is_stmt_within m (unwrap_or made whole) loop ≡ true)
+    (not (inner % 16 == 0) && (is_small (count * inner) && body_goes_on loop inner body))
+    (Some (Loop (count * inner) (lifted_body loop body))) None
+    (λ e.
+    let told = and_parts (is_small (count * inner)) _ (and_parts (not (inner % 16 == 0)) _ e).1 in
+    loop-is m (count * inner) loop (lifted_body loop body)
+    (record {
+      small = positive count inner outer.small inside.small told.0;
+      deep = outer.deep;
+      within = body-lifted m loop inner (loop + 1) body (omega arith) told.1 inside.within;
+    }))
+    (λ e. h)
 
 -- statements where loops are joined
 mutual

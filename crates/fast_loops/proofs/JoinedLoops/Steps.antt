@@ -1,7 +1,7 @@
 -- Two loops that are one do the steps that they did.
-use Rattle.std.proofs.Common.{◌≡◌, ℕ, ◌+◌, ◌*◌, Bool, true, false, Some, None, List, [], ◌∷◌, ◌++◌, flat_map, length}
-use Rattle.std.proofs.Common.{refl, sym, ap, ap₂, ◌∙◌, arith, append-nil, append_assoc, length-append}
-use Rattle.std.specs.Prelude.{◌%◌, ◌==◌, ◌&&◌, not, if◌then◌else◌}
+use Rattle.std.proofs.Common.{◌≡◌, ℕ, ◌+◌, ◌*◌, true, Some, None, List, [], ◌∷◌, ◌++◌, flat_map, length, refl, sym, ap}
+use Rattle.std.proofs.Common.{ap₂, ◌∙◌, arith, append-nil, append_assoc, length-append}
+use Rattle.std.specs.Prelude.{◌%◌, ◌==◌, ◌&&◌, not}
 use Rattle.std.specs.List.{range_with_len}
 use Rattle.std.specs.Option.{unwrap_or}
 use Rattle.std.proofs.Math.Path.{fun_ext}
@@ -12,6 +12,7 @@ use Rattle.icode.specs.Plain.{AndStmts}
 use Rattle.icode.proofs.Bools.{both_true}
 use Rattle.fast_loops.specs.JoinedLoops.JoinedLoops.{op_goes_on, body_goes_on, lifted_op, lifted_body, as_one}
 use Rattle.fast_loops.specs.JoinedLoops.JoinedLoops.{joined_stmt, joined_body}
+use Rattle.fast_loops.proofs.Bools.{by_test}
 use Rattle.fast_loops.proofs.Grouped.{in_groups}
 use Rattle.fast_loops.proofs.JoinedLoops.Numbers.{place_same}
 
@@ -58,17 +59,16 @@ module _ (p : PlainProgram) (q : ℕ) where
   one-same loop count (AndStmts (Do op) rest) vs deep = refl
   one-same loop count (AndStmts (Loop inner body) (AndStmts stmt rest)) vs deep = refl
   one-same loop count (AndStmts (Loop inner body) NoStmts) vs deep =
-      by_test (not (inner % 16 == 0) && (is_small (count * inner) && body_goes_on loop inner body)) refl
+      by_test (λ made. steps_of_stmt p (unwrap_or made whole) vs q ≡ steps_of_stmt p whole vs q)
+      (not (inner % 16 == 0) && (is_small (count * inner) && body_goes_on loop inner body))
+      (Some (Loop (count * inner) (lifted_body loop body))) None
+      (λ e.
+      both-same loop count inner body vs deep
+      (both_true (is_small (count * inner)) _ (both_true (not (inner % 16 == 0)) _ e).1).1)
+      (λ e. refl)
     where
-      by_test : (t : Bool) →
-          (not (inner % 16 == 0) && (is_small (count * inner) && body_goes_on loop inner body)) ≡ t →
-          steps_of_stmt p (unwrap_or (if t then Some (Loop (count * inner) (lifted_body loop body)) else None)
-          (Loop count (AndStmts (Loop inner body) NoStmts))) vs q
-          ≡ steps_of_stmt p (Loop count (AndStmts (Loop inner body) NoStmts)) vs q
-      by_test false e = refl
-      by_test true e =
-          both-same loop count inner body vs deep
-          (both_true (is_small (count * inner)) _ (both_true (not (inner % 16 == 0)) _ e).1).1
+      whole : PlainStmt
+      whole = Loop count (AndStmts (Loop inner body) NoStmts)
 
   one_deeper : (loop : ℕ) (vs : List ℕ) (i : ℕ) → length vs ≡ loop → length (vs ++ i ∷ []) ≡ loop + 1
   one_deeper loop vs i deep = length-append vs (i ∷ []) ∙ ap (λ n. n + 1) deep

@@ -1,7 +1,7 @@
 -- The loads of a row: word k of the round, into register k.
-use Rattle.std.proofs.Common.{◌≡◌, ℕ, zero, suc, ◌+◌, ◌<◌, ◌≤◌, Bool, true, false, List, [], ◌∷◌, ◌++◌, map, take, drop}
-use Rattle.std.proofs.Common.{refl, sym, ap, ap₂, ◌∙◌, subst, arith, eqb-true, leb-true, append-nil, take-append-drop}
-use Rattle.std.specs.Prelude.{◌==◌, slice_index, nat_le, if◌then◌else◌}
+use Rattle.std.proofs.Common.{◌≡◌, ℕ, zero, suc, ◌+◌, ◌<◌, ◌≤◌, true, List, [], ◌∷◌, ◌++◌, map, take, drop, refl, sym}
+use Rattle.std.proofs.Common.{ap, ap₂, ◌∙◌, subst, arith, eqb-true, leb-true, append-nil, take-append-drop}
+use Rattle.std.specs.Prelude.{◌==◌, slice_index, nat_le}
 use Rattle.std.specs.List.{list_all, range_with_len}
 use Rattle.std.proofs.lemmas.List.{append_assoc}
 use Rattle.icode.specs.Actions.{array_start}
@@ -15,6 +15,7 @@ use Rattle.fast_loops.specs.LoopLanes.Columns.{renumbered}
 use Rattle.fast_loops.specs.LoopLanes.Layers.{values_put}
 use Rattle.fast_loops.specs.LoopLanes.Loads.{Loaded, is_loaded, row_length}
 use Rattle.fast_loops.specs.LoopLanes.Rounds.{straight}
+use Rattle.fast_loops.proofs.Bools.{by_test}
 use Rattle.fast_loops.proofs.Linear.{wrong, passed, parts_equal}
 use Rattle.fast_loops.proofs.LoopLanes.Arrays.{array_same}
 use Rattle.fast_loops.proofs.LoopLanes.RoundWrites.{acts_in}
@@ -38,14 +39,9 @@ loaded-is from k op h = wrong h
 row-taken : (from : Loaded) (k : ℕ) (ops : List PlainOp) →
     take (row_length from k ops) ops ≡ row from k (row_length from k ops)
 row-taken from k [] = refl
-row-taken from k (op ∷ ops) = by (is_loaded from k op) refl (row-taken from (k + 1) ops)
-  where
-    by : (t : Bool) → is_loaded from k op ≡ t →
-        take (row_length from (k + 1) ops) ops ≡ row from (k + 1) (row_length from (k + 1) ops) →
-        take (if t then suc (row_length from (k + 1) ops) else 0) (op ∷ ops)
-        ≡ row from k (if t then suc (row_length from (k + 1) ops) else 0)
-    by true e rest = ap₂ (λ x xs. x ∷ xs) (loaded-is from k op e) rest
-    by false e rest = refl
+row-taken from k (op ∷ ops) =
+    by_test (λ n. take n (op ∷ ops) ≡ row from k n) (is_loaded from k op) (suc (row_length from (k + 1) ops)) 0
+    (λ e. ap₂ (λ x xs. x ∷ xs) (loaded-is from k op e) (row-taken from (k + 1) ops)) (λ e. refl)
 
 -- the row, and what comes after it
 pub row_first : (from : Loaded) (ops : List PlainOp) →

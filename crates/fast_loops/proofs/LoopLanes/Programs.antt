@@ -1,6 +1,6 @@
 -- A program whose bodies are laned leaves what it left.
-use Rattle.std.proofs.Common.{◌≡◌, ℕ, ◌*◌, ◌^◌, ◌<◌, ◌≤◌, List, true, map, flat_map, length, sym, ap, ◌∙◌}
-use Rattle.std.proofs.Common.{refl, subst, arith, eqb-true}
+use Rattle.std.proofs.Common.{◌≡◌, ℕ, ◌*◌, ◌^◌, ◌<◌, ◌≤◌, List, true, map, flat_map, length, sym, ap, ◌∙◌, refl, subst}
+use Rattle.std.proofs.Common.{arith, eqb-true}
 use Rattle.std.specs.Prelude.{slice_index_or, replicate, ◌==◌, nat_lt}
 use Rattle.std.specs.List.{list_all}
 use Rattle.std.proofs.lemmas.List.{length-map, length-replicate}

@@ -1,9 +1,9 @@
 -- A program with a table in two factors is within the limits of programs.
-use Rattle.std.proofs.Common.{◌≡◌, ℕ, zero, suc, ◌+◌, ◌≤◌, ◌&&◌, Bool, true, false, List, [], ◌∷◌, ◌++◌, map, refl, sym}
-use Rattle.std.proofs.Common.{ap, ap₂, ◌∙◌, arith, eqb-true, le-leb, ⊎_elim}
-use Rattle.std.specs.Prelude.{nat_lt, nat_le, max, ◌==◌, ◌%◌, slice_set, if◌then◌else◌}
+use Rattle.std.proofs.Common.{◌≡◌, ℕ, zero, suc, ◌+◌, ◌≤◌, ◌&&◌, Bool, true, List, [], ◌∷◌, ◌++◌, map, refl, sym, ap}
+use Rattle.std.proofs.Common.{ap₂, ◌∙◌, arith, le-leb}
+use Rattle.std.specs.Prelude.{nat_lt, nat_le, max, ◌==◌, ◌%◌, slice_set}
 use Rattle.std.specs.List.{list_all}
-use Rattle.std.proofs.lemmas.Bool.{cases_Bool, and_from}
+use Rattle.std.proofs.lemmas.Bool.{and_from}
 use Rattle.icode.specs.Limits.{is_small, is_small_positive, is_sum_within, sum_parts, all_parts, sum_depth, parts_depth}
 use Rattle.icode.specs.Limits.{is_expr_within, is_op_within, is_stmt_within, is_body_within, are_tables_within}
 use Rattle.icode.specs.Limits.{are_phases_within}
