@@ -48,11 +48,12 @@ map-alike f g zero i h = refl
 map-alike f g (suc n) i h =
     ap₂ (λ (x : ℕ) (xs : List ℕ). x ∷ xs) (h i (omega arith)) (map-alike f g n (i + 1) (λ l below. h l (omega arith)))
 
-flat_map-alike : (f g : ℕ → List ℕ) (n i : ℕ) → ((l : ℕ) → l < i + n → f l ≡ g l) →
-    flat_map f (range_with_len i n) ≡ flat_map g (range_with_len i n)
-flat_map-alike f g zero i h = refl
-flat_map-alike f g (suc n) i h =
-    ap₂ (λ (xs ys : List ℕ). xs ++ ys) (h i (omega arith)) (flat_map-alike f g n (i + 1) (λ l below. h l (omega arith)))
+pub loops_same : {X : Type 0} (f g : ℕ → List X) (j n : ℕ) → ((i : ℕ) → j ≤ i → i < j + n → f i ≡ g i) →
+    flat_map f (range_with_len j n) ≡ flat_map g (range_with_len j n)
+loops_same f g j zero h = refl
+loops_same f g j (suc n) h =
+    ap₂ (λ xs ys. xs ++ ys) (h j (omega arith) (omega arith))
+    (loops_same f g (j + 1) n (λ i from to. h i (omega (arith, from)) (omega (arith, to))))
 
 -- ---- registers of which the first are the same
 
@@ -63,7 +64,7 @@ module _ (lanes next : ℕ) (r s : List ℕ) (same : (k : ℕ) → k < next * la
 
   pub tile_agrees : (x : ℕ) → x + lanes ≤ next → transposed lanes r x ≡ transposed lanes s x
   tile_agrees x before =
-      flat_map-alike _ _ lanes 0 (λ k k_below. map-alike _ _ lanes 0 (λ l l_below.
+      loops_same _ _ 0 lanes (λ k k_from k_below. map-alike _ _ lanes 0 (λ l l_below.
       let low : x + l < next = omega arith in
       let room = mul-le-mul_left lanes low in
       slice_index-agree r s ((x + l) * lanes + k) (same ((x + l) * lanes + k) (omega arith))))

@@ -3,10 +3,11 @@ use Rattle.std.proofs.Common.{◌≡◌, ℕ, ◌<◌, ◌≤◌, List, [], ◌�
 use Rattle.std.proofs.Common.{◌∙◌, subst, arith, append-nil, append_assoc, length-append}
 use Rattle.std.specs.Prelude.{◌-◌, replicate}
 use Rattle.std.specs.List.{range_with_len}
-use Rattle.std.proofs.lemmas.List.Elements.{Contains-append_left, Contains-get_or}
+use Rattle.std.proofs.lemmas.List.Elements.{Contains-append_left, Contains-get_or, All-append, All-replicate}
 use Rattle.icode.specs.declared.action.Action.{Action}
 use Rattle.icode.specs.Actions.{Step, StepFits, actions_of, lane_factors, step_of, steps_of_body}
 use Rattle.icode.specs.Plain.{PlainOp, PlainBody, PlainProgram, MulConst, MulTable, Loop, Do, NoStmts, AndStmts}
+use Rattle.std.proofs.lemmas.List.FromFn.{get_or-map-range_with_len, length-map-range_with_len}
 use Rattle.operators.specs.Sum.{list_below}
 use Rattle.operators.proofs.Lists.{length-list_below}
 use Rattle.icode.specs.CodeLaws.Nests.{AreInRange}
@@ -35,6 +36,18 @@ factors_each lanes factor =
     let whole = length-append (list_below lanes factor) (replicate (16 - lanes) 0) in
     let own = length-list_below lanes factor in
     omega (arith, whole, own)
+
+all-below : (P : ℕ → Type 0) (n : ℕ) (g : ℕ → ℕ) → ((l : ℕ) → l < n → P (g l)) → All P (list_below n g)
+all-below P n g each k d lt =
+    let few : k < n = omega (arith, lt, length-map-range_with_len g 0 n) in
+    subst P (sym (get_or-map-range_with_len g 0 n k k d few (omega arith))) (each k few)
+
+-- factors of lanes fit where each does, and there is a number below the modulus
+pub factors_fit : (m lanes : ℕ) (g : ℕ → ℕ) → 0 < m → ((l : ℕ) → l < lanes → g l < m) →
+    All (λ c. c < m) (lane_factors lanes g)
+factors_fit m lanes g some each =
+    All-append (λ c. c < m) (list_below lanes g) (replicate (16 - lanes) 0)
+    (all-below (λ c. c < m) lanes g each) (All-replicate (λ c. c < m) (16 - lanes) 0 some)
 
 wide_acts : (p : PlainProgram) (next : ℕ) (body : PlainBody) (vs : List ℕ) (q : ℕ) →
     are_fresh p.lanes next body ≡ true →

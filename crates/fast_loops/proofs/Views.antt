@@ -3,6 +3,8 @@ use Rattle.std.proofs.Common.{◌≡◌, map, ℕ, zero, suc, ◌+◌, ◌<◌, 
 use Rattle.std.proofs.Common.{refl, get_or, length}
 use Rattle.std.specs.Prelude.{◌&&◌}
 use Rattle.std.specs.List.{list_all}
+use Rattle.std.proofs.lemmas.List.Elements.{All-get_or}
+use Rattle.std.proofs.lemmas.List.Sums.{AllPass-from_list_all}
 use Rattle.icode.specs.declared.program.Op.{Op}
 use Rattle.icode.specs.declared.program.Stmt.{Stmt}
 use Rattle.icode.specs.declared.program.Stmt.TheVariants.{Do}
@@ -57,6 +59,6 @@ shallow-at (y ∷ stmts) (suc i) x d h e lt = shallow-at stmts i x d (both_true 
 
 pub all-shallow-at : (phases : List PlainBody) (i : ℕ) (x d : PlainBody) → list_all are_shallow phases ≡ true →
     x ≡ get_or phases i d → i < length phases → are_shallow x ≡ true
-all-shallow-at [] i x d h e lt = absurd (omega arith)
-all-shallow-at (y ∷ phases) zero x d h e lt = ap are_shallow e ∙ (both_true (are_shallow y) _ h).0
-all-shallow-at (y ∷ phases) (suc i) x d h e lt = all-shallow-at phases i x d (both_true (are_shallow y) _ h).1 e (omega (arith, lt))
+all-shallow-at phases i x d h e lt =
+    ap are_shallow e
+    ∙ All-get_or (λ b. are_shallow b ≡ true) phases i d lt (AllPass-from_list_all are_shallow phases h)

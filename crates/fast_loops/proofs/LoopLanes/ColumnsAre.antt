@@ -1,7 +1,7 @@
 -- Columns on v lanes, turned by tiles, leave what v rounds write.
-use Rattle.std.proofs.Common.{◌≡◌, ℕ, zero, suc, ◌+◌, ◌*◌, ◌/◌, ◌%◌, ◌^◌, ◌<◌, ◌≤◌, Bool, true, not, List, [], ◌∷◌}
-use Rattle.std.proofs.Common.{◌++◌, Contains, Option, Some, None, map, flat_map, length, take, refl, sym, ap, ap₂, ◌∙◌}
-use Rattle.std.proofs.Common.{arith, inl, inr, subst, eqb-true, leb-true, mul_comm, take-append-drop}
+use Rattle.std.proofs.Common.{◌≡◌, ℕ, ◌+◌, ◌*◌, ◌/◌, ◌%◌, ◌^◌, ◌<◌, ◌≤◌, Bool, true, not, List, [], ◌∷◌, ◌++◌, Contains}
+use Rattle.std.proofs.Common.{Option, Some, None, map, flat_map, length, take, sym, ap, ap₂, ◌∙◌, arith, inl, inr}
+use Rattle.std.proofs.Common.{subst, eqb-true, leb-true, mul_comm, take-append-drop}
 use Rattle.std.specs.Prelude.{◌==◌, ◌&&◌, nat_le, slice_index}
 use Rattle.std.specs.List.{list_all, range_with_len}
 use Rattle.std.proofs.lemmas.List.{length-take-le}
@@ -13,6 +13,7 @@ use Rattle.icode.specs.CodeLaws.Lanes.{lane_of}
 use Rattle.icode.proofs.CodeLaws.Stores.{length-registers}
 use Rattle.fast_loops.specs.Places.{are_linear, stride}
 use Rattle.fast_loops.specs.Rounds.{Stored, are_fresh}
+use Rattle.fast_loops.proofs.Independent.{loops_same}
 use Rattle.fast_loops.proofs.Linear.{wrong}
 use Rattle.fast_loops.specs.LoopLanes.Columns.{Columns, Factors, renumbered, are_distinct, are_products}
 use Rattle.fast_loops.specs.LoopLanes.Columns.{factored_registers, front_length, last_products, plain_columns}
@@ -96,13 +97,6 @@ by_told v loop ops by h =
     record { linear = place.0; small = place.1; products = two.0; from = two.1 }
 
 -- ---- any columns
-
-loops_same : {X : Type 0} (f g : ℕ → List X) (j n : ℕ) → ((i : ℕ) → j ≤ i → i < j + n → f i ≡ g i) →
-    flat_map f (range_with_len j n) ≡ flat_map g (range_with_len j n)
-loops_same f g j zero h = refl
-loops_same f g j (suc n) h =
-    ap₂ (λ x xs. x ++ xs) (h j (omega arith) (omega arith))
-    (loops_same f g (j + 1) n (λ i from to. h i (omega (arith, from)) (omega (arith, to))))
 
 -- the operations before the tiles put registers of the program, and those that are turned are among these
 pub record IsBefore (p : PlainProgram) (c : Columns) : Type 0 where

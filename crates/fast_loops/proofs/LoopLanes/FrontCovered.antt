@@ -3,9 +3,7 @@ use Rattle.std.proofs.Common.{◌≡◌, ℕ, ◌+◌, ◌-◌, ◌*◌, ◌^◌
 use Rattle.std.proofs.Common.{length, replicate, refl, sym, ap, ◌∙◌, subst, arith, eqb-true}
 use Rattle.std.specs.Prelude.{◌==◌, slice_index, slice_index_or}
 use Rattle.std.specs.List.{range_with_len}
-use Rattle.std.proofs.lemmas.List.Elements.{All-append, All-head, All-replicate}
-use Rattle.std.proofs.lemmas.List.FromFn.{get_or-map-range_with_len, length-map-range_with_len}
-use Rattle.operators.specs.Sum.{list_below}
+use Rattle.std.proofs.lemmas.List.Elements.{All-head}
 use Rattle.icode.specs.declared.program.Array.{Array}
 use Rattle.icode.specs.Actions.{Step, StepFits, array_start, lane_factors, step_of}
 use Rattle.icode.specs.Expression.{sum_numbers}
@@ -17,6 +15,7 @@ use Rattle.icode.proofs.Lines.{Contains-nil, Contains-range}
 use Rattle.fast_loops.specs.Places.{are_linear, is_linear, stride}
 use Rattle.fast_loops.specs.Rounds.{Stored, same_array}
 use Rattle.fast_loops.proofs.Linear.{wrong, parts_equal}
+use Rattle.fast_loops.proofs.Rows.{factors_fit}
 use Rattle.fast_loops.proofs.Members.{range_item}
 use Rattle.fast_loops.specs.LoopLanes.Rounds.{widened, place_stride, is_store, is_by_lane, in_row}
 use Rattle.fast_loops.specs.LoopLanes.Columns.{renumbered_op}
@@ -25,18 +24,6 @@ use Rattle.fast_loops.proofs.LoopLanes.Covered.{IsCovered, IsInGroup, in_group, 
 use Rattle.fast_loops.proofs.LoopLanes.Wide.{widened_value, wide_value}
 
 -- ---- factors
-
-all-below : (P : ℕ → Type 0) (n : ℕ) (g : ℕ → ℕ) → ((l : ℕ) → l < n → P (g l)) → All P (list_below n g)
-all-below P n g each k d lt =
-    let few : k < n = omega (arith, lt, length-map-range_with_len g 0 n) in
-    subst P (sym (get_or-map-range_with_len g 0 n k k d few (omega arith))) (each k few)
-
--- factors of lanes fit where each does, and there is a number below the modulus
-pub factors_fit : (m lanes : ℕ) (g : ℕ → ℕ) → 0 < m → ((l : ℕ) → l < lanes → g l < m) →
-    All (λ c. c < m) (lane_factors lanes g)
-factors_fit m lanes g some each =
-    All-append (λ c. c < m) (list_below lanes g) (replicate (16 - lanes) 0)
-    (all-below (λ c. c < m) lanes g each) (All-replicate (λ c. c < m) (16 - lanes) 0 some)
 
 pub no_steps : (at step : ℕ) → at + step * 0 ≡ at
 no_steps at step = omega arith

@@ -199,7 +199,7 @@ module _ (m v loop n regs : ℕ) (to : Stored) (ops : List PlainOp) (lanes : Are
   ops_within : can_lane v loop (Some to) ops ≡ true → Within (laned_ops v regs loop (Some to) ops)
   ops_within can =
       of_good_kinds Within v regs loop to ops can
-      (λ unit by_lane. rows_within ops unit by_lane (λ op has. has))
+      (λ unit by_lane clear. rows_within ops unit by_lane (λ op has. has))
       columns_within
       (λ from words loaded.
       let among = All-drop (Contains ops) words ops (all_of_members (Contains ops) ops (λ op has. has)) in

@@ -102,11 +102,6 @@ of_loaded_rows P v n loop to ops h each = by (first_load ops) h
     by (Some from) h =
         let m : ℕ = row_length from 0 ops in each from m (rows-told v loop to ops from m (row_first from ops) h)
 
-pub from_loaded_rows : (P : Type 0) (v loop : ℕ) (to : Stored) (ops : List PlainOp) →
-    are_loaded_rows v loop to ops ≡ true →
-    ((from : Loaded) (m : ℕ) → AreLoadedRows v loop to ops from m → P) → P
-from_loaded_rows P v loop to ops h each = of_loaded_rows (λ ops. P) v 0 loop to ops h each
-
 -- what holds of columns after each row holds of what becomes of the round
 pub of_loaded : (P : List PlainOp → Type 0) (v n loop : ℕ) (to : Stored) (ops : List PlainOp) (c : Columns) →
     are_loaded v loop to ops c ≡ true →
@@ -119,12 +114,6 @@ of_loaded P v n loop to ops c h each = by (first_load c.front) h
     by (Some from) h =
         let m : ℕ = row_length from 0 c.front in
         each from m (behind-told v loop to ops c from m (row_first from c.front) h)
-
--- and what follows whatever the row is
-pub from_loaded : (P : Type 0) (v loop : ℕ) (to : Stored) (ops : List PlainOp) (c : Columns) →
-    are_loaded v loop to ops c ≡ true →
-    ((from : Loaded) (m : ℕ) → IsLoaded v loop to ops c from m → P) → P
-from_loaded P v loop to ops c h each = of_loaded (λ ops. P) v 0 loop to ops c h each
 
 -- ---- rows
 
@@ -171,7 +160,8 @@ module _ (v loop : ℕ) (to : Stored) (front : List PlainOp) (from : Loaded) (m 
 -- what holds of rows and of columns, and of these after a row that is loaded, holds of what becomes of the round
 pub of_good_kinds : (P : List PlainOp → Type 0) (v n loop : ℕ) (to : Stored) (ops : List PlainOp) →
     can_lane v loop (Some to) ops ≡ true →
-    (stride loop to.parts ≡ 1 → list_all (is_by_lane loop to) ops ≡ true → P (map (in_row v loop) ops)) →
+    (stride loop to.parts ≡ 1 → list_all (is_by_lane loop to) ops ≡ true → are_clear v (stored_constants ops) ≡ true →
+    P (map (in_row v loop) ops)) →
     ((c : Columns) → AreGood v loop to ops c → P (in_columns v n loop to c)) →
     ((from : Loaded) (m : ℕ) → AreLoadedRows v loop to ops from m →
     P (load_tiles v (2 * n) loop from m ++ map (in_row v loop) (drop m ops))) →
@@ -182,7 +172,8 @@ of_good_kinds P v n loop to ops can rows columns loaded_rows loaded =
     of_kinds P v n loop to ops can
     (λ h.
     let two = both_true (stride loop to.parts == 1) _ h in
-    rows (eqb-true (stride loop to.parts) 1 two.0) (both_true (list_all (is_by_lane loop to) ops) _ two.1).0)
+    let more = both_true (list_all (is_by_lane loop to) ops) _ two.1 in
+    rows (eqb-true (stride loop to.parts) 1 two.0) more.0 more.1)
     (λ h. columns (plain_columns ops) (plain_good v loop to ops h))
     (λ h. columns (factored_columns ops) (factored_good v loop to ops h))
     (λ h. of_loaded_rows P v n loop to ops h loaded_rows)

@@ -3,12 +3,12 @@ use Rattle.std.proofs.Common.{◌≡◌, ℕ, zero, suc, ◌+◌, ◌<◌, ◌�
 use Rattle.std.proofs.Common.{ap, ◌∙◌, arith, eqb-true, ltb-true}
 use Rattle.std.specs.Prelude.{slice_index, nat_lt, ◌==◌}
 use Rattle.std.specs.List.{list_all}
-use Rattle.std.proofs.lemmas.Bool.{and_from}
 use Rattle.std.proofs.lemmas.List.Elements.{All-take}
 use Rattle.std.proofs.lemmas.List.Sums.{AllPass-from_list_all, list_all-from_AllPass}
 use Rattle.icode.specs.Actions.{StepFits, step_of}
 use Rattle.icode.specs.Plain.{PlainOp, PlainProgram, Store}
 use Rattle.icode.proofs.Bools.{both_true}
+use Rattle.fast_loops.proofs.Bools.{later_kept}
 use Rattle.fast_loops.specs.Rounds.{is_fresh, put_after, are_fresh}
 use Rattle.fast_loops.specs.LoopLanes.Layers.{steps_at}
 use Rattle.fast_loops.specs.LoopLanes.Rounds.{straight, is_store, stores, others, stored_registers, are_from}
@@ -39,18 +39,14 @@ pub others_fresh : (ops : List PlainOp) (next : ℕ) → are_fresh 1 next (strai
 others_fresh [] next h = refl
 others_fresh (Store array place r ∷ ops) next h = others_fresh ops next (both_true (nat_lt r next) _ h).1
 others_fresh (op ∷ ops) next h =
-    let two = both_true (is_fresh 1 next op) (are_fresh 1 (put_after 1 next op) (straight ops)) h in
-    and_from (is_fresh 1 next op) (are_fresh 1 (put_after 1 next op) (straight (others ops))) two.0
-    (others_fresh ops (put_after 1 next op) two.1)
+    later_kept (is_fresh 1 next op) (others_fresh ops (put_after 1 next op)) h
 
 pub taken_fresh : (ops : List PlainOp) (next n : ℕ) → are_fresh 1 next (straight ops) ≡ true →
     are_fresh 1 next (straight (take n ops)) ≡ true
 taken_fresh ops next zero h = refl
 taken_fresh [] next (suc n) h = refl
 taken_fresh (op ∷ ops) next (suc n) h =
-    let two = both_true (is_fresh 1 next op) (are_fresh 1 (put_after 1 next op) (straight ops)) h in
-    and_from (is_fresh 1 next op) (are_fresh 1 (put_after 1 next op) (straight (take n ops))) two.0
-    (taken_fresh ops (put_after 1 next op) n two.1)
+    later_kept (is_fresh 1 next op) (taken_fresh ops (put_after 1 next op) n) h
 
 -- ---- registers
 

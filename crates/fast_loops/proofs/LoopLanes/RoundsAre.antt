@@ -311,7 +311,7 @@ module _ (v : ℕ) (p : PlainProgram) (to : Stored) (ops : List PlainOp) (vs : L
       Cover (laned_ops v p.regs loop (Some to) ops) × AreFew (laned_ops v p.regs loop (Some to) ops)
   are_covered can =
       of_good_kinds (λ new. Cover new × AreFew new) v p.regs loop to ops can
-      (λ unit by_lane. (rows_covered ops unit by_lane (λ op has. has), rows_few))
+      (λ unit by_lane clear. (rows_covered ops unit by_lane (λ op has. has), rows_few))
       (λ c tests. (columns_covered c tests, columns_are_few c tests))
       (λ from m loaded. (row_covered_behind from m loaded, row_few_behind from m loaded))
       (λ c from m first front short tests.

@@ -1,8 +1,7 @@
 -- No word gets two values from the rounds of a group.
 use Rattle.std.proofs.Common.{◌≡◌, ◌⊎◌, ℕ, zero, suc, ◌+◌, ◌*◌, ◌<◌, ◌≤◌, Bool, true, List, [], ◌∷◌, ◌++◌, length}
-use Rattle.std.proofs.Common.{Contains, Some, refl, sym, ap, ap₂, ◌∙◌, subst, arith, inl, inr, ⊎_elim, eqb-true}
-use Rattle.std.proofs.Common.{leb-true}
-use Rattle.std.specs.Prelude.{◌==◌, nat_le, slice_index}
+use Rattle.std.proofs.Common.{Contains, Some, refl, sym, ap, ap₂, ◌∙◌, subst, arith, inl, inr, ⊎_elim, leb-true}
+use Rattle.std.specs.Prelude.{nat_le, slice_index}
 use Rattle.std.specs.List.{list_all}
 use Rattle.std.proofs.lemmas.Bool.{or_cases, cases_order}
 use Rattle.std.proofs.lemmas.List.Elements.{All-get_or}
@@ -12,18 +11,14 @@ use Rattle.icode.proofs.Bools.{both_true}
 use Rattle.icode.proofs.Lines.{Contains-nil}
 use Rattle.fast_loops.specs.Places.{are_linear, stride}
 use Rattle.fast_loops.specs.Rounds.{Stored}
-use Rattle.fast_loops.specs.LoopLanes.Rounds.{is_by_lane, stores, stored_registers, stored_constants, are_from}
-use Rattle.fast_loops.specs.LoopLanes.Rounds.{is_clear, are_clear}
-use Rattle.fast_loops.specs.LoopLanes.Columns.{Columns, plain_columns, factored_columns, are_by, are_columns}
+use Rattle.fast_loops.specs.LoopLanes.Rounds.{stores, stored_registers, stored_constants, are_from, is_clear, are_clear}
 use Rattle.fast_loops.specs.LoopLanes.Lanes.{can_lane}
-use Rattle.fast_loops.specs.LoopLanes.Loads.{behind, are_loaded}
 use Rattle.fast_loops.specs.LoopLanes.Layers.{Write, GroupsAreSure, round_writes, group_writes}
 use Rattle.fast_loops.proofs.Changes.{of-loop}
 use Rattle.fast_loops.proofs.LoopLanes.Arrays.{step_before}
-use Rattle.fast_loops.proofs.LoopLanes.ColumnsAre.{columns_told}
+use Rattle.fast_loops.proofs.LoopLanes.ColumnsAre.{AreTurned}
 use Rattle.fast_loops.proofs.LoopLanes.Held.{values_in}
-use Rattle.fast_loops.proofs.LoopLanes.Kinds.{of_kinds}
-use Rattle.fast_loops.proofs.LoopLanes.LoadsTold.{from_loaded_rows, from_loaded}
+use Rattle.fast_loops.proofs.LoopLanes.LoadsTold.{of_good_kinds}
 use Rattle.fast_loops.proofs.LoopLanes.Parted.{from_at}
 use Rattle.fast_loops.proofs.LoopLanes.Told.{AreTold, told, stored_at, store_base, writes_are}
 use Rattle.fast_loops.proofs.LoopLanes.Wide.{lane_value}
@@ -123,20 +118,13 @@ constants_are [] = refl
 constants_are (Store array (Sum constant parts) r ∷ ops) = ap suc (constants_are ops)
 constants_are (op ∷ ops) = constants_are ops
 
-columns-told : (v loop : ℕ) (to : Stored) (ops : List PlainOp) (c : Columns) → are_columns v loop to ops c ≡ true →
+columns-told : (v loop : ℕ) (to : Stored) (ops : List PlainOp) (turned : List ℕ) → AreTurned v loop to ops turned →
     AreSpread v (stride loop to.parts) (stored_constants ops)
-columns-told v loop to ops c h =
-    let told = (columns_told v loop to ops c h).turned in
+columns-told v loop to ops turned told =
     let many = told.many in
     let apart = told.apart in
     let long = constants_are ops in
     columns-spread v (stride loop to.parts) (stored_constants ops) told.from (omega (arith, many, apart, long))
-
-loaded-told : (v loop : ℕ) (to : Stored) (ops : List PlainOp) (c : Columns) → are_loaded v loop to ops c ≡ true →
-    AreSpread v (stride loop to.parts) (stored_constants ops)
-loaded-told v loop to ops c h =
-    from_loaded (AreSpread v (stride loop to.parts) (stored_constants ops)) v loop to ops c h (λ from m known.
-    columns-told v loop to ops (behind m c) known.columns)
 
 rows-told : (v loop : ℕ) (to : Stored) (ops : List PlainOp) → stride loop to.parts ≡ 1 →
     are_clear v (stored_constants ops) ≡ true → AreSpread v (stride loop to.parts) (stored_constants ops)
@@ -146,19 +134,11 @@ rows-told v loop to ops unit clear =
 pub spread : (v loop : ℕ) (to : Stored) (ops : List PlainOp) → can_lane v loop (Some to) ops ≡ true →
     AreSpread v (stride loop to.parts) (stored_constants ops)
 spread v loop to ops h =
-    of_kinds (λ new. AreSpread v (stride loop to.parts) (stored_constants ops)) v 0 loop to ops h
-    (λ rows.
-    let two = both_true (stride loop to.parts == 1) _ rows in
-    rows-told v loop to ops (eqb-true (stride loop to.parts) 1 two.0)
-    (both_true (list_all (is_by_lane loop to) ops) _ two.1).1)
-    (λ plain. columns-told v loop to ops (plain_columns ops) plain)
-    (λ factored.
-    columns-told v loop to ops (factored_columns ops)
-    (both_true (are_by v loop ops (factored_columns ops).by) _ factored).1)
-    (λ rows. from_loaded_rows (AreSpread v (stride loop to.parts) (stored_constants ops)) v loop to ops rows
-    (λ from m known. rows-told v loop to ops known.unit known.clear))
-    (λ plain. loaded-told v loop to ops (plain_columns ops) plain)
-    (λ by factored. loaded-told v loop to ops (factored_columns ops) factored)
+    of_good_kinds (λ new. AreSpread v (stride loop to.parts) (stored_constants ops)) v 0 loop to ops h
+    (λ unit by_lane clear. rows-told v loop to ops unit clear)
+    (λ c tests. columns-told v loop to ops c.turned tests.columns.turned)
+    (λ from m known. rows-told v loop to ops known.unit known.clear)
+    (λ c from m first front short tests. columns-told v loop to ops c.turned tests.columns.turned)
 
 -- ---- groups
 

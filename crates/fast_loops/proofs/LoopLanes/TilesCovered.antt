@@ -11,12 +11,12 @@ use Rattle.icode.specs.Plain.{PlainParts, PlainOp, PlainProgram, Sum, Load, Stor
 use Rattle.icode.proofs.Lines.{Contains-nil}
 use Rattle.fast_loops.specs.Places.{are_linear}
 use Rattle.fast_loops.specs.Rounds.{Stored}
+use Rattle.fast_loops.proofs.Rows.{factors_fit}
 use Rattle.fast_loops.specs.LoopLanes.Columns.{Factors}
 use Rattle.fast_loops.specs.LoopLanes.Layers.{group_at}
 use Rattle.fast_loops.specs.LoopLanes.Loads.{Loaded}
 use Rattle.fast_loops.proofs.LoopLanes.Covered.{IsInGroup, in_group}
-use Rattle.fast_loops.proofs.LoopLanes.FrontCovered.{Covered, factors_fit, factor_fits, no_steps, silent}
-use Rattle.fast_loops.proofs.LoopLanes.FrontCovered.{words_of_lanes}
+use Rattle.fast_loops.proofs.LoopLanes.FrontCovered.{Covered, factor_fits, no_steps, silent, words_of_lanes}
 use Rattle.fast_loops.proofs.LoopLanes.Wide.{moved, moved_value, moved_peak}
 
 -- the rounds store into the word of this constant

@@ -26,7 +26,7 @@ use Rattle.fast_loops.proofs.LoopLanes.Arrays.{IsOutside, other_outside}
 use Rattle.fast_loops.proofs.LoopLanes.ColumnsAre.{columns_told, by_told}
 use Rattle.fast_loops.proofs.LoopLanes.Kinds.{of_kinds}
 use Rattle.fast_loops.proofs.LoopLanes.LoadedRow.{row}
-use Rattle.fast_loops.proofs.LoopLanes.LoadsTold.{IsRow, from_loaded_rows, from_loaded}
+use Rattle.fast_loops.proofs.LoopLanes.LoadsTold.{IsRow, of_loaded_rows, of_loaded}
 use Rattle.fast_loops.proofs.LoopLanes.OneLane.{IsPlaced, ArePlaced, IsLaneRound}
 use Rattle.fast_loops.proofs.Apart.{array-same}
 
@@ -104,7 +104,7 @@ told-columns v loop to ops c h =
 told-loaded : (v loop : ℕ) (to : Stored) (ops : List PlainOp) (c : Columns) → are_loaded v loop to ops c ≡ true →
     AreTold to (stores ops) × AreTold to c.front
 told-loaded v loop to ops c h =
-    from_loaded (AreTold to (stores ops) × AreTold to c.front) v loop to ops c h (λ from m known.
+    of_loaded (λ new. AreTold to (stores ops) × AreTold to c.front) v 0 loop to ops c h (λ from m known.
     let told = columns_told v loop to ops (behind m c) known.columns in (
       told-all loop to (stores ops) told.turned.stores_by_lane,
       told-behind v loop to c.front from m known.first told.front_by_lane,
@@ -129,7 +129,7 @@ told v loop to ops h =
     (λ factored.
     let two = both_true (are_by v loop ops (factored_columns ops).by) _ factored in
     told-factored v loop to ops two.0 (told-columns v loop to ops (factored_columns ops) two.1))
-    (λ rows. from_loaded_rows (AreTold to ops) v loop to ops rows (λ from m known.
+    (λ rows. of_loaded_rows (λ new. AreTold to ops) v 0 loop to ops rows (λ from m known.
     told-behind v loop to ops from m known.first known.by_lane))
     (λ plain. let two = told-loaded v loop to ops (plain_columns ops) plain in told-split to ops two.0 two.1)
     (λ by factored. told-factored v loop to ops by (told-loaded v loop to ops (factored_columns ops) factored))

@@ -1,12 +1,12 @@
 -- A product by an entry of the table, and the two products that it becomes.
 use Rattle.std.proofs.Common.{◌≡◌, ◌≢◌, ℕ, zero, suc, ◌+◌, ◌-◌, ◌*◌, ◌/◌, ◌%◌, ◌^◌, ◌<◌, ◌≤◌, true, List, [], ◌∷◌, ◌++◌}
-use Rattle.std.proofs.Common.{All, map, replicate, length, refl, sym, ap, ap₂, ◌∙◌, subst, arith, eqb-true, ltb-true}
-use Rattle.std.proofs.Common.{leb-true, mul-le-mul_left}
+use Rattle.std.proofs.Common.{replicate, length, refl, sym, ap, ap₂, ◌∙◌, subst, arith, eqb-true, ltb-true, leb-true}
+use Rattle.std.proofs.Common.{mul-le-mul_left}
 use Rattle.std.specs.Prelude.{slice_index, slice_index_or, slice_set, nat_lt, nat_le}
-use Rattle.std.specs.List.{range_with_len, list_all}
+use Rattle.std.specs.List.{list_all}
 use Rattle.std.proofs.Math.Seq.{get_or-append_seam}
 use Rattle.std.proofs.lemmas.List.{get_or_append_left, get_or-set_same, get_or-set_other, length-set}
-use Rattle.std.proofs.lemmas.List.Elements.{All-nil, All-cons, All-append, All-map, All-replicate}
+use Rattle.std.proofs.lemmas.List.Elements.{All-nil, All-cons}
 use Rattle.operators.specs.Sum.{list_below}
 use Rattle.operators.proofs.Lists.{length-list_below, at-list_below}
 use Rattle.ring_mod.specs.Residue.{product_mod}
@@ -21,7 +21,7 @@ use Rattle.fast_loops.specs.TwoTables.Factors.{Cut, first_factor, second_factor,
 use Rattle.fast_loops.specs.TwoTables.Places.{is_even, place_in_first, place_in_second}
 use Rattle.fast_loops.specs.TwoTables.TwoTables.{has_room, is_usable, is_cut_well, can_split, in_factors, is_body_even}
 use Rattle.fast_loops.specs.TwoTables.TwoTables.{is_short}
-use Rattle.fast_loops.proofs.Rows.{factors_each}
+use Rattle.fast_loops.proofs.Rows.{factors_each, factors_fit}
 use Rattle.fast_loops.proofs.TwoTables.Dividing.{IsInBlock, in_block}
 use Rattle.fast_loops.proofs.TwoTables.Walked.{AreFactors, IsProduct, walked, table_small}
 use Rattle.fast_loops.proofs.TwoTables.Listed.{is-there}
@@ -36,12 +36,6 @@ factor_at lanes f lane lt =
     let size = length-list_below lanes f in
     get_or_append_left (list_below lanes f) (replicate (16 - lanes) 0) 0 lane (omega (arith, size, lt))
     ∙ at-list_below lanes f lane lt
-
-factors_small : (m lanes : ℕ) (f : ℕ → ℕ) → 0 < m → ((lane : ℕ) → f lane < m) → All (λ c. c < m) (lane_factors lanes f)
-factors_small m lanes f some h =
-    All-append (λ c. c < m) (map f (range_with_len 0 lanes)) (replicate (16 - lanes) 0)
-    (All-map (λ c. c < m) f (range_with_len 0 lanes) (λ k d lt. h _))
-    (All-replicate (λ c. c < m) (16 - lanes) 0 some)
 
 -- ---- one more register
 
@@ -260,8 +254,8 @@ module _ (p : PlainProgram) (table : ℕ) (cut : Cut) (is : IsSplit p table cut)
           numbers = omega (arith, peak, whole);
           place = omega (arith, there, here, size);
           registers = let fits = fit.registers in (omega arith, omega (arith, fits.1));
-          factors = factors_small p.modulus p.lanes factors_one is.factors.some
-              (λ lane. subst (λ es. slice_index es (at_first + 0 * lane) < p.modulus) (sym in_first) (table_small p.modulus first (at_first + 0 * lane) is.factors.first_small));
+          factors = factors_fit p.modulus p.lanes factors_one is.factors.some
+              (λ lane lt. subst (λ es. slice_index es (at_first + 0 * lane) < p.modulus) (sym in_first) (table_small p.modulus first (at_first + 0 * lane) is.factors.first_small));
         }
 
     two_fits : StepFits q two
@@ -275,8 +269,8 @@ module _ (p : PlainProgram) (table : ℕ) (cut : Cut) (is : IsSplit p table cut)
           numbers = omega (arith, peak, whole);
           place = omega (arith, there, here, size);
           registers = let fits = fit.registers in (omega (arith, fits.0), omega arith);
-          factors = factors_small p.modulus p.lanes factors_two is.factors.some
-              (λ lane. subst (λ es. slice_index es (at_second + step * lane) < p.modulus) (sym in_second) (table_small p.modulus second (at_second + step * lane) is.factors.second_small));
+          factors = factors_fit p.modulus p.lanes factors_two is.factors.some
+              (λ lane lt. subst (λ es. slice_index es (at_second + step * lane) < p.modulus) (sym in_second) (table_small p.modulus second (at_second + step * lane) is.factors.second_small));
         }
 
     each : (lane : ℕ) → lane < p.lanes →
