@@ -7,7 +7,7 @@ use Rattle.icode.specs.Actions.{Step, actions_of}
 use Rattle.icode.proofs.Lines.{Contains-range}
 use Rattle.fast_loops.proofs.Acts.{DoTheSame}
 use Rattle.fast_loops.proofs.Members.{into_flat_map, from_flat_map, range_item, append_within}
-use Rattle.fast_loops.proofs.Same.{in-loops, same-append, same-trans}
+use Rattle.fast_loops.proofs.Swaps.{in-loops, same-append, same-trans}
 
 pub record AreFor (m lanes : ℕ) (xs ys : List Step) : Type 0 where
   pub same : DoTheSame m lanes (actions_of xs) (actions_of ys)

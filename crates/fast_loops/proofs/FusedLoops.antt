@@ -1,5 +1,4 @@
 pub mod Blocks
-pub mod Follows
 pub mod Joins
 pub mod Law
 pub mod Limited

@@ -8,7 +8,6 @@ pub mod Bools
 pub mod Changes
 pub mod Counted
 pub mod Counts
-pub mod Folds
 pub mod Fresh
 pub mod Grouped
 pub mod InOrder
@@ -21,12 +20,8 @@ pub mod Limited
 pub mod Linear
 pub mod Looped
 pub mod Members
-pub mod Nests
 pub mod Phases
 pub mod Programs
-pub mod Ranges
 pub mod Rows
-pub mod Same
-pub mod Strides
 pub mod Swaps
 pub mod Views

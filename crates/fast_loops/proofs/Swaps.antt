@@ -1,16 +1,84 @@
--- Rounds of which neither stores where the other loads or stores can be swapped.
-use Rattle.std.proofs.Common.{◌≡◌, ℕ, ◌*◌, inl, inr, List, [], ◌∷◌, ◌++◌, length, Contains, refl, sym, ap, ◌∙◌, arith}
+-- Lists of actions that leave the same memory, and that may come in either order.
+use Rattle.std.proofs.Common.{◌≡◌, ℕ, zero, suc, ◌+◌, ◌<◌, ◌≤◌, List, [], ◌∷◌, ◌++◌, length, flat_map, refl, sym, ap}
+use Rattle.std.proofs.Common.{◌∙◌, subst, arith, append-nil, ◌*◌, inl, inr, Contains, ◌≢◌, ◌⊎◌, ap₂, append_assoc}
+use Rattle.std.specs.List.{range_with_len}
+use Rattle.std.proofs.lemmas.List.Concat.{flat_map-append}
+use Rattle.icode.specs.declared.action.Action.{Action}
+use Rattle.icode.specs.Machine.{Local, effects, effect, register_of, stored_words}
+use Rattle.icode.proofs.CodeLaws.ByLane.{lists_follow}
+use Rattle.icode.proofs.CodeLaws.Statements.{range-last}
+use Rattle.icode.proofs.CodeLaws.Stores.{length-registers, length-memory}
+use Rattle.fast_loops.proofs.Acts.{memory_by, DoTheSame, AreFresh, AreApart, Stores, Loads, AreWide, IsRound}
 use Rattle.std.specs.Prelude.{flat_map, slice_get}
 use Rattle.std.proofs.lemmas.List.Elements.{Contains-append_left, Contains-append_right}
-use Rattle.icode.specs.declared.action.Action.{Action}
 use Rattle.icode.specs.declared.action.Action.TheVariants.{Store}
-use Rattle.icode.specs.Machine.{Local, effect, effects, register_of, stored_words}
 use Rattle.icode.proofs.Words.{same_from_slice_get, with_words-other, length-words_at}
 use Rattle.icode.proofs.Lines.{Contains_or_not, Contains-range}
-use Rattle.icode.proofs.CodeLaws.ByLane.{lists_follow}
-use Rattle.icode.proofs.CodeLaws.Stores.{length-memory, length-registers}
-use Rattle.fast_loops.proofs.Acts.{AreFresh, AreApart, Stores, Loads, memory_by, DoTheSame, AreWide, IsRound}
 use Rattle.fast_loops.proofs.Independent.{acts_alike}
+use Rattle.std.proofs.Math.Path.{fun_ext}
+
+-- what holds of none, and of lists one after another where it holds of each, holds of loops
+pub in-loops : {X : Type 0} (Holds : List X → List X → Type 0) → Holds [] [] →
+    ((a b c d : List X) → Holds a b → Holds c d → Holds (a ++ c) (b ++ d)) → (f g : ℕ → List X) (a n : ℕ) →
+    ((i : ℕ) → a ≤ i → i < a + n → Holds (f i) (g i)) →
+    Holds (flat_map f (range_with_len a n)) (flat_map g (range_with_len a n))
+in-loops Holds none append f g a zero h = none
+in-loops Holds none append f g a (suc n) h =
+    append (f a) (g a) (flat_map f (range_with_len (a + 1) n)) (flat_map g (range_with_len (a + 1) n))
+    (h a (omega arith) (omega arith))
+    (in-loops Holds none append f g (a + 1) n (λ i low high. h i (omega (arith, low)) (omega (arith, high))))
+
+-- the last round of a loop
+pub flat_map-last : (f : ℕ → List Action) (n : ℕ) → flat_map f (range_with_len 0 (suc n))
+    ≡ flat_map f (range_with_len 0 n) ++ f n
+flat_map-last f n =
+    let same : 0 + n ≡ n = omega arith in
+    ap (flat_map f) (range-last 0 n ∙ ap (λ k. range_with_len 0 n ++ k ∷ []) same)
+    ∙ flat_map-append f (range_with_len 0 n) (n ∷ [])
+    ∙ ap (λ (fs : List Action). flat_map f (range_with_len 0 n) ++ fs) (append-nil (f n))
+
+-- rounds that do nothing
+abbrev pub none : ℕ → List Action
+none n = []
+
+pub flat_map-none : (ns : List ℕ) → flat_map none ns ≡ []
+flat_map-none [] = refl
+flat_map-none (n ∷ ns) = flat_map-none ns
+
+module _ (m lanes : ℕ) where
+  pub same-nothing : DoTheSame m lanes [] []
+  same-nothing r s memory long = refl
+
+  pub same-sym : (a b : List Action) → DoTheSame m lanes a b → DoTheSame m lanes b a
+  same-sym a b h r s memory long = sym (h s r memory (sym long))
+
+  pub same-trans : (a b c : List Action) → DoTheSame m lanes a b → DoTheSame m lanes b c → DoTheSame m lanes a c
+  same-trans a b c first second r s memory long = first r s memory long ∙ second s s memory refl
+
+  -- lists that are equal to lists that do the same
+  pub same-between : (a b c d : List Action) → a ≡ b → DoTheSame m lanes b c → c ≡ d → DoTheSame m lanes a d
+  same-between a b c d first h last =
+      subst (λ (fs : List Action). DoTheSame m lanes a fs) last (subst (λ (fs : List Action). DoTheSame m lanes fs c) (sym first) h)
+
+  pub same-append : (a b c d : List Action) → DoTheSame m lanes a b → DoTheSame m lanes c d →
+      DoTheSame m lanes (a ++ c) (b ++ d)
+  same-append a b c d first second r s memory long =
+      let after : Local = effects m lanes a (record { memory = memory; registers = r }) in
+      let other : Local = effects m lanes b (record { memory = memory; registers = s }) in
+      let kept : length after.registers ≡ length other.registers =
+      length-registers m lanes a (record { memory = memory; registers = r }) ∙ long ∙ sym (length-registers m lanes b (record { memory = memory; registers = s })) in
+      ap (λ (z : Local). z.memory) (lists_follow m lanes a c (record { memory = memory; registers = r }))
+      ∙ second after.registers other.registers after.memory kept
+      ∙ ap (memory_by m lanes d other.registers) (first r s memory long)
+      ∙ sym (ap (λ (z : Local). z.memory) (lists_follow m lanes b d (record { memory = memory; registers = s })))
+
+  -- loops whose rounds do the same
+  pub same-loops : (n : ℕ) (f g : ℕ → List Action) → ((i : ℕ) → i < n → DoTheSame m lanes (f i) (g i)) →
+      DoTheSame m lanes (flat_map f (range_with_len 0 n)) (flat_map g (range_with_len 0 n))
+  same-loops n f g h =
+      in-loops (DoTheSame m lanes) same-nothing same-append f g 0 n (λ i low high. h i (omega (arith, high)))
+
+-- ---- rounds of which neither stores where the other loads or stores can be swapped
 
 kept_by : (m lanes : ℕ) (f : Action) (s : Local) (k : ℕ) → (Contains (stored_words lanes f) k → ⊥) →
     slice_get (effect m lanes f s).memory k ≡ slice_get s.memory k
@@ -69,3 +137,96 @@ swapped m lanes fs gs (fresh, wide) (fresh_too, wide_too) apart r s memory long 
               behind m lanes fs gs from to fresh_too wide_too (λ k loaded stored. apart.into k stored loaded) refl long k outside
               ∙ sym (kept_by_all m lanes fs (effects m lanes gs to) k outside)
         ]
+
+-- ---- loops of rounds, one in the other, in either order
+
+module _ (m lanes : ℕ) where
+  -- the memory they leave hangs on no register
+  abbrev pub IsSure : List Action → Type 0
+  IsSure a = DoTheSame m lanes a a
+
+  -- either may come first
+  abbrev pub Commute : List Action → List Action → Type 0
+  Commute a b = DoTheSame m lanes (a ++ b) (b ++ a)
+
+  pub commute-append : (a b c : List Action) → IsSure a → IsSure b → Commute a c → Commute b c → Commute (a ++ b) c
+  commute-append a b c sure sure_too first second =
+      let past : DoTheSame m lanes (a ++ (b ++ c)) (a ++ (c ++ b)) = same-append m lanes a a (b ++ c) (c ++ b) sure second in
+      let front : DoTheSame m lanes ((a ++ c) ++ b) ((c ++ a) ++ b) = same-append m lanes (a ++ c) (c ++ a) b b first sure_too in
+      let joined : DoTheSame m lanes (a ++ (c ++ b)) (c ++ (a ++ b)) =
+      same-between m lanes _ _ _ _ (sym (append_assoc a c b)) front (append_assoc c a b) in
+      let all = same-trans m lanes (a ++ (b ++ c)) (a ++ (c ++ b)) (c ++ (a ++ b)) past joined in
+      same-between m lanes _ _ (c ++ (a ++ b)) _ (append_assoc a b c) all refl
+
+  -- a loop whose rounds may come before or after other actions
+  pub commute-loop : (n : ℕ) (f : ℕ → List Action) (c : List Action) → IsSure c → ((i : ℕ) → i < n → IsSure (f i)) →
+      ((i : ℕ) → i < n → Commute (f i) c) →
+      Commute (flat_map f (range_with_len 0 n)) c
+  commute-loop zero f c sure_there sure commute = same-between m lanes c c c (c ++ []) refl sure_there (sym (append-nil c))
+  commute-loop (suc n) f c sure_there sure commute =
+      let before : List Action = flat_map f (range_with_len 0 n) in
+      let rest = commute-loop n f c sure_there (λ i below. sure i (omega arith)) (λ i below. commute i (omega arith)) in
+      let settled : IsSure before = same-loops m lanes n f f (λ i below. sure i (omega arith)) in
+      let whole = commute-append before (f n) c settled (sure n (omega arith)) rest (commute n (omega arith)) in
+      let is = flat_map-last f n in
+      same-between m lanes _ _ _ _ (ap (λ (fs : List Action). fs ++ c) is) whole (sym (ap (λ (fs : List Action). c ++ fs) is))
+
+  -- four lists, of which those in the middle change places
+  commute-middle : (a b c d : List Action) → IsSure a → IsSure d → Commute b c →
+      DoTheSame m lanes ((a ++ b) ++ (c ++ d)) ((a ++ c) ++ (b ++ d))
+  commute-middle a b c d sure sure_too commute =
+      let middle = same-append m lanes a a ((b ++ c) ++ d) ((c ++ b) ++ d) sure (same-append m lanes (b ++ c) (c ++ b) d d commute sure_too) in
+      same-between m lanes _ _ _ _ (shape a b c d) middle (sym (shape a c b d))
+    where
+      shape : (a b c d : List Action) → (a ++ b) ++ (c ++ d) ≡ a ++ ((b ++ c) ++ d)
+      shape a b c d = append_assoc a b (c ++ d) ∙ ap (λ (fs : List Action). a ++ fs) (sym (append_assoc b c d))
+
+  -- a loop whose rounds are of two parts becomes two loops
+  pub parted : (n : ℕ) (f g : ℕ → List Action) → ((j : ℕ) → j < n → IsSure (f j)) → ((j : ℕ) → j < n → IsSure (g j)) →
+      ((j l : ℕ) → j < l → l < n → Commute (g j) (f l)) →
+      DoTheSame m lanes
+      (flat_map (λ j. f j ++ g j) (range_with_len 0 n))
+      (flat_map f (range_with_len 0 n) ++ flat_map g (range_with_len 0 n))
+  parted zero f g sure sure_too commute = same-nothing m lanes
+  parted (suc n) f g sure sure_too commute =
+      let fs : List Action = flat_map f (range_with_len 0 n) in
+      let gs : List Action = flat_map g (range_with_len 0 n) in
+      let both : List Action = flat_map (λ j. f j ++ g j) (range_with_len 0 n) in
+      let last_sure = sure n (omega arith) in
+      let last_sure_too = sure_too n (omega arith) in
+      let rest = parted n f g (λ j below. sure j (omega arith)) (λ j below. sure_too j (omega arith)) (λ j l lower below. commute j l lower (omega arith)) in
+      let more = same-append m lanes both (fs ++ gs) (f n ++ g n) (f n ++ g n) rest (same-append m lanes (f n) (f n) (g n) (g n) last_sure last_sure_too) in
+      let settled : IsSure fs = same-loops m lanes n f f (λ j below. sure j (omega arith)) in
+      let past = commute-loop n g (f n) last_sure (λ j below. sure_too j (omega arith)) (λ j below. commute j n below (omega arith)) in
+      let turned = commute-middle fs gs (f n) (g n) settled last_sure_too past in
+      let joined = same-trans m lanes (both ++ (f n ++ g n)) ((fs ++ gs) ++ (f n ++ g n)) ((fs ++ f n) ++ (gs ++ g n)) more turned in
+      let ends = ap₂ (λ (xs ys : List Action). xs ++ ys) (sym (flat_map-last f n)) (sym (flat_map-last g n)) in
+      same-between m lanes _ _ _ _ (flat_map-last (λ j. f j ++ g j) n) joined ends
+
+  -- loops over rounds of which those at different places may come in either order
+  pub exchanged_loops : (outer inner : ℕ) (round : ℕ → ℕ → List Action) →
+      ((i j : ℕ) → i < outer → j < inner → IsSure (round i j)) →
+      ((i j k l : ℕ) → i < outer → j < inner → k < outer → l < inner → ((i ≢ k) ⊎ (j ≢ l)) →
+      Commute (round i j) (round k l)) →
+      DoTheSame m lanes
+      (flat_map (λ j. flat_map (λ i. round i j) (range_with_len 0 outer)) (range_with_len 0 inner))
+      (flat_map (λ i. flat_map (λ j. round i j) (range_with_len 0 inner)) (range_with_len 0 outer))
+  exchanged_loops zero inner round sure commute = same-between m lanes _ _ [] [] (flat_map-none (range_with_len 0 inner)) (same-nothing m lanes) refl
+  exchanged_loops (suc n) inner round sure commute =
+      let row : ℕ → List Action = λ j. flat_map (λ i. round i j) (range_with_len 0 n) in
+      let column : ℕ → List Action = λ i. flat_map (λ j. round i j) (range_with_len 0 inner) in
+      let row_sure = λ (j : ℕ) (below : j < inner). same-loops m lanes n (λ i. round i j) (λ i. round i j) (λ i low. sure i j (omega arith) below) in
+      let last_sure = λ (j : ℕ) (below : j < inner). sure n j (omega arith) below in
+      let apart = λ (j l : ℕ) (lower : j < l) (below : l < inner). same-sym m lanes (row l ++ round n j) (round n j ++ row l)
+      (commute-loop n (λ i. round i l) (round n j) (last_sure j (omega arith)) (λ i low. sure i l (omega arith) below)
+      (λ i low. commute i l n j (omega arith) below (omega arith) (omega arith) (inl (omega arith)))) in
+      let parts = parted inner row (round n) row_sure last_sure apart in
+      let rest = exchanged_loops n inner round (λ i j low below. sure i j (omega arith) below)
+      (λ i j k l low below high under other. commute i j k l (omega arith) below (omega arith) under other) in
+      let last = same-loops m lanes inner (round n) (round n) last_sure in
+      let rows : List Action = flat_map row (range_with_len 0 inner) in
+      let columns : List Action = flat_map column (range_with_len 0 n) in
+      let more = same-append m lanes rows columns (column n) (column n) rest last in
+      let whole = same-trans m lanes (flat_map (λ j. row j ++ round n j) (range_with_len 0 inner)) (rows ++ column n) (columns ++ column n) parts more in
+      let split = ap (λ (f : ℕ → List Action). flat_map f (range_with_len 0 inner)) (fun_ext (λ j. flat_map-last (λ i. round i j) n)) in
+      same-between m lanes _ _ _ _ split whole (sym (flat_map-last column n))

@@ -17,15 +17,13 @@ use Rattle.fast_loops.specs.FusedLoops.FusedLoops.{put_behind, joined, waiting, 
 use Rattle.fast_loops.specs.FusedLoops.FusedLoops.{may_be_fused, fused}
 use Rattle.fast_loops.specs.TwoTables.Laws.{IsInPlaceOf}
 use Rattle.fast_loops.proofs.Acts.{memory_by}
-use Rattle.fast_loops.proofs.Folds.{IsSure}
+use Rattle.fast_loops.proofs.Swaps.{IsSure, same-nothing}
 use Rattle.fast_loops.proofs.Bools.{by_test}
 use Rattle.fast_loops.proofs.InPlace.{of-members, no-more, in-place, itself, where-true}
 use Rattle.fast_loops.proofs.Linear.{wrong}
 use Rattle.fast_loops.proofs.Phases.{with_phases, phase-is, row, listed}
 use Rattle.fast_loops.proofs.Rows.{StepsFit}
-use Rattle.fast_loops.proofs.Same.{same-nothing}
-use Rattle.fast_loops.proofs.FusedLoops.Blocks.{has-blocks}
-use Rattle.fast_loops.proofs.FusedLoops.Follows.{round-follows}
+use Rattle.fast_loops.proofs.FusedLoops.Blocks.{has-blocks, round-follows}
 use Rattle.fast_loops.proofs.FusedLoops.Joins.{LeavesFor, Ends, body-sure, grows, leaves-behind, leaves-itself}
 use Rattle.fast_loops.proofs.FusedLoops.Joins.{leaves-trans, sure-append}
 use Rattle.fast_loops.proofs.FusedLoops.Steps.{put-steps}

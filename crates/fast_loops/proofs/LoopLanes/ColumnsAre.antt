@@ -25,9 +25,8 @@ use Rattle.fast_loops.specs.LoopLanes.Rounds.{straight, is_store, is_by_lane, st
 use Rattle.fast_loops.specs.LoopLanes.Rounds.{stored_constants, are_from}
 use Rattle.fast_loops.proofs.LoopLanes.Held.{IsFront, HoldsBy, in_lanes, values_in}
 use Rattle.fast_loops.proofs.LoopLanes.FrontHeld.{front_held}
-use Rattle.fast_loops.proofs.LoopLanes.Orders.{some_lanes, group_fits}
-use Rattle.fast_loops.proofs.LoopLanes.Parted.{all_taken, from_at, others_put, others_fresh, taken_fresh}
-use Rattle.fast_loops.proofs.LoopLanes.Parted.{length-stored_registers, stored_low, puts_low}
+use Rattle.fast_loops.proofs.LoopLanes.Orders.{some_lanes, group_fits, all_taken, from_at, others_put, others_fresh}
+use Rattle.fast_loops.proofs.LoopLanes.Orders.{taken_fresh, length-stored_registers, stored_low, puts_low}
 use Rattle.fast_loops.proofs.LoopLanes.Renumbered.{renumbered_is, renumbered_apart, renumbered_at}
 use Rattle.fast_loops.proofs.LoopLanes.RoundWrites.{acts_in, acts-append, others_values, values_follow, products_low}
 use Rattle.fast_loops.proofs.LoopLanes.RoundWrites.{products_put, writes_in_order}

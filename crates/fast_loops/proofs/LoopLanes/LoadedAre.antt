@@ -18,12 +18,11 @@ use Rattle.fast_loops.proofs.LoopLanes.ColumnsAre.{tiles_of, numbers_low, number
 use Rattle.fast_loops.proofs.LoopLanes.ColumnsAre.{factored_before, factored_stored, factored_linear}
 use Rattle.fast_loops.proofs.LoopLanes.FrontHeld.{front_from}
 use Rattle.fast_loops.proofs.LoopLanes.Held.{AreHeld, HoldsBy, in_lanes, values_in}
-use Rattle.fast_loops.proofs.LoopLanes.LoadedRow.{row_stays}
+use Rattle.fast_loops.proofs.LoopLanes.RoundWrites.{row_stays, acts_in}
 use Rattle.fast_loops.proofs.LoopLanes.LoadsHeld.{rows_held}
 use Rattle.fast_loops.proofs.LoopLanes.RowHeld.{row_in, values_first, row_held}
 use Rattle.fast_loops.proofs.LoopLanes.LoadsTold.{IsLoaded, of_loaded, front_many, lanes_few, rest_fresh}
 use Rattle.fast_loops.proofs.LoopLanes.Orders.{some_lanes}
-use Rattle.fast_loops.proofs.LoopLanes.RoundWrites.{acts_in}
 use Rattle.fast_loops.proofs.LoopLanes.RowsAre.{held_same}
 use Rattle.fast_loops.proofs.LoopLanes.Tiled.{AreLinearBy, wide_acts, wide_follow}
 

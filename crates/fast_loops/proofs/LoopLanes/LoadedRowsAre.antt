@@ -15,11 +15,10 @@ use Rattle.fast_loops.specs.LoopLanes.Loads.{Loaded, load_tiles, are_loaded_rows
 use Rattle.fast_loops.specs.LoopLanes.Rounds.{others, in_row}
 use Rattle.fast_loops.proofs.LoopLanes.ColumnsAre.{short-others}
 use Rattle.fast_loops.proofs.LoopLanes.Held.{values_in}
-use Rattle.fast_loops.proofs.LoopLanes.LoadedRow.{row}
+use Rattle.fast_loops.proofs.LoopLanes.RoundWrites.{row, acts_in}
 use Rattle.fast_loops.proofs.LoopLanes.LoadsHeld.{rows_held}
 use Rattle.fast_loops.proofs.LoopLanes.LoadsTold.{AreLoadedRows, of_loaded_rows, lanes_few, rest_fresh}
 use Rattle.fast_loops.proofs.LoopLanes.Orders.{group_fits, some_lanes}
-use Rattle.fast_loops.proofs.LoopLanes.RoundWrites.{acts_in}
 use Rattle.fast_loops.proofs.LoopLanes.RowHeld.{row_in, values_first, row_held}
 use Rattle.fast_loops.proofs.LoopLanes.RowsAre.{lane_writes, no_writes, rows_from, rows_in_lanes, rows_after}
 use Rattle.fast_loops.proofs.LoopLanes.Tiled.{wide_acts, wide_follow}

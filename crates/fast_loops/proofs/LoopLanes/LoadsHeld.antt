@@ -17,7 +17,7 @@ use Rattle.icode.proofs.CodeLaws.Stores.{length-registers, load_by_lane}
 use Rattle.icode.proofs.CodeLaws.Tiles.{tile_by_lane, tile_elsewhere}
 use Rattle.fast_loops.specs.Places.{are_linear}
 use Rattle.fast_loops.specs.LoopLanes.Loads.{Loaded, load_at, load_tile, load_tiles}
-use Rattle.fast_loops.proofs.LoopLanes.LoadedRow.{row_word}
+use Rattle.fast_loops.proofs.LoopLanes.RoundWrites.{row_word}
 use Rattle.fast_loops.proofs.LoopLanes.Tiled.{wide_acts, wide_follow, word-at}
 use Rattle.fast_loops.proofs.LoopLanes.Wide.{moved}
 

@@ -25,15 +25,14 @@ use Rattle.fast_loops.specs.LoopLanes.Layers.{group_writes, steps_at, group_at, 
 use Rattle.fast_loops.proofs.LoopLanes.ColumnsAre.{short-others}
 use Rattle.fast_loops.proofs.LoopLanes.Covered.{IsOpCovered, lanes_from}
 use Rattle.fast_loops.proofs.LoopLanes.Everywhere.{all_lanes, all_rows, all_loads, all_columns}
-use Rattle.fast_loops.proofs.LoopLanes.FrontCovered.{AreLow, front_covered}
+use Rattle.fast_loops.proofs.LoopLanes.FrontCovered.{AreLow, front_covered, IsStored, tile_covered, row_covered}
+use Rattle.fast_loops.proofs.LoopLanes.FrontCovered.{product_covered, load_covered}
 use Rattle.fast_loops.proofs.LoopLanes.LoadedRowsAre.{row_few}
-use Rattle.fast_loops.proofs.LoopLanes.LoadsTold.{IsRow, AreLoadedRows, of_good_kinds, loads_each, front_many}
+use Rattle.fast_loops.proofs.LoopLanes.LoadsTold.{IsRow, AreLoadedRows, of_good_kinds, loads_each, front_many, IsOther}
+use Rattle.fast_loops.proofs.LoopLanes.LoadsTold.{stored_each, AreGood, AreMultiplied}
 use Rattle.fast_loops.proofs.LoopLanes.Made.{tile_within}
 use Rattle.fast_loops.proofs.LoopLanes.Orders.{are_some, some_lanes}
-use Rattle.fast_loops.proofs.LoopLanes.Parts.{IsOther, stored_each}
 use Rattle.fast_loops.proofs.LoopLanes.Renumbered.{renumbered_is}
-use Rattle.fast_loops.proofs.LoopLanes.Tests.{AreGood, AreMultiplied}
-use Rattle.fast_loops.proofs.LoopLanes.TilesCovered.{IsStored, tile_covered, row_covered, product_covered, load_covered}
 use Rattle.fast_loops.proofs.LoopLanes.Writes.{order_is_free}
 
 -- ---- how many steps there are

@@ -10,9 +10,8 @@ use Rattle.fast_loops.specs.Places.{are_linear}
 use Rattle.fast_loops.specs.LoopLanes.Layers.{values_put}
 use Rattle.fast_loops.specs.LoopLanes.Loads.{Loaded}
 use Rattle.fast_loops.proofs.LoopLanes.Held.{AreHeld, values_in}
-use Rattle.fast_loops.proofs.LoopLanes.LoadedRow.{row, row_word, row_values}
+use Rattle.fast_loops.proofs.LoopLanes.RoundWrites.{row, row_word, row_values, acts_in, acts-append, values_follow}
 use Rattle.fast_loops.proofs.LoopLanes.LoadsHeld.{AreRows}
-use Rattle.fast_loops.proofs.LoopLanes.RoundWrites.{acts_in, acts-append, values_follow}
 
 module _ (v : ℕ) (p : PlainProgram) (from : Loaded) (vs : List ℕ) (b q m : ℕ) where
   abbrev round_at : ℕ → List ℕ

@@ -8,7 +8,7 @@ use Rattle.icode.specs.Expression.{alone, with_part, with_sum, sum_numbers, part
 use Rattle.icode.specs.Plain.{PlainExpr, PlainParts, Sum, NoParts, AndParts, Proc, Var}
 use Rattle.fast_loops.specs.Places.{are_linear, is_linear, stride}
 use Rattle.fast_loops.proofs.Linear.{by_equal, from_depth, wrong, proc_first, from_least}
-use Rattle.fast_loops.proofs.Strides.{added, value_by_strides}
+use Rattle.fast_loops.proofs.Apart.{added, value_by_strides}
 use Rattle.fast_loops.specs.LoopLanes.Rounds.{widened_parts, widened, place_stride}
 
 -- ---- the value of the innermost loop
