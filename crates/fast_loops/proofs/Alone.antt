@@ -1,22 +1,76 @@
--- Bodies of one loop and of others, as code takes them apart.
-use Rattle.std.proofs.Common.{◌≡◌, ◌≢◌, Vec, Global, ℕ, ◌+◌, ◌≤◌, List, [], ◌∷◌, Bool, true, false, ap, ap₂, sym, ◌∙◌}
-use Rattle.std.proofs.Common.{arith, refl, get_or, length}
-use Rattle.std.specs.Prelude.{◌*◌, ◌&&◌, nat_le, if◌then◌else◌}
-use Rattle.std.proofs.lemmas.Bool.{le-leb}
+-- Code's parts and statements, as the definitions see them, and bodies of one loop and of others.
+use Rattle.std.proofs.Common.{◌≡◌, map, ℕ, zero, suc, ◌+◌, ◌<◌, List, [], ◌∷◌, Bool, true, ap, sym, ◌∙◌, drop, arith}
+use Rattle.std.proofs.Common.{refl, get_or, length, ◌≢◌, Vec, Global, ◌≤◌, false, ap₂}
+use Rattle.std.specs.Prelude.{◌&&◌, ◌*◌, nat_le, if◌then◌else◌}
+use Rattle.std.specs.List.{list_all}
+use Rattle.std.proofs.lemmas.List.Elements.{All-get_or}
+use Rattle.std.proofs.lemmas.List.Sums.{AllPass-from_list_all}
 use Rattle.icode.specs.declared.program.Op.{Op}
 use Rattle.icode.specs.declared.program.Stmt.{Stmt}
-use Rattle.icode.specs.declared.program.Stmt.TheVariants.{Loop, Do}
-use Rattle.icode.specs.Plain.{PlainParts, PlainStmt, PlainBody, NoStmts, AndStmts, plain_stmt, plain_body}
-use Rattle.icode.specs.Plain as plain
+use Rattle.icode.specs.declared.program.Stmt.TheVariants.{Do, Loop}
+use Rattle.icode.specs.Plain.{PlainStmt, PlainBody, AndStmts, body_of, plain_op, plain_stmt, plain_body, PlainParts}
+use Rattle.icode.specs.Plain.{NoStmts}
+use Rattle.icode.proofs.Bools.{both_true}
+use Rattle.icode.proofs.Steps.{drop_item}
 use Rattle.icode.proofs.Views.{plain_stmt-Do, plain_stmt-Loop}
-use Rattle.fast_loops.specs.Interchange.{counts_in, round_in, looped, nest_stmt, within, sunk, ordered}
-use Rattle.fast_loops.specs.Places.{stride, exchanged_round}
-use Rattle.fast_loops.specs.Rounds.{first_load, steps_less}
-use Rattle.fast_loops.specs.View.{loops_in, are_nested_in, last_stride_in, one_loop, exchanged_in, sunk_loop}
-use Rattle.fast_loops.specs.View.{ordered_loop}
+use Rattle.fast_loops.specs.Places.{exchanged_op, exchanged_round, stride}
+use Rattle.fast_loops.specs.Interchange.{interchanged_nest, interchanged_body, counts_in, round_in, looped, nest_stmt}
+use Rattle.fast_loops.specs.Interchange.{within, sunk, ordered}
+use Rattle.fast_loops.specs.Rounds.{is_fresh, put_after, are_fresh, first_load, steps_less}
+use Rattle.fast_loops.specs.View.{exchanged_stmt, is_shallow, are_shallow, loops_in, are_nested_in, last_stride_in}
+use Rattle.fast_loops.specs.View.{one_loop, exchanged_in, sunk_loop, ordered_loop}
+use Rattle.std.proofs.lemmas.Bool.{le-leb}
 use Rattle.fast_loops.proofs.Looped.{looped_is}
 use Rattle.fast_loops.proofs.Counts.{round-inner, inner-round, counts-looped, round-looped, inner-exchanged}
 use Rattle.fast_loops.proofs.Counts.{inner-ordered, long-ordered}
+use Rattle.icode.specs.Plain as plain
+
+-- an operation in front
+pub fresh-Do : (lanes next i : ℕ) (items : List Stmt) (stmt : Stmt) (op : Op) → i < length items →
+    stmt ≡ get_or items i stmt → stmt ≡ Do op → are_fresh lanes next (plain_body (drop i items))
+    ≡ (is_fresh lanes next (plain_op op) && are_fresh lanes (put_after lanes next (plain_op op))
+    (plain_body (drop (i + 1) items)))
+fresh-Do lanes next i items stmt op lt e is =
+    ap (λ xs. are_fresh lanes next (plain_body xs)) (drop_item items i stmt lt e)
+    ∙ ap (λ s. are_fresh lanes next (AndStmts s (plain_body (drop (i + 1) items)))) (ap plain_stmt is ∙ plain_stmt-Do op)
+
+-- the others go on from there
+pub fresh-more : (lanes next after i : ℕ) (items : List Stmt) (stmt : Stmt) (op : Op) (whole : Bool) →
+    i < length items → stmt ≡ get_or items i stmt → stmt ≡ Do op → is_fresh lanes next (plain_op op) ≡ true →
+    after ≡ put_after lanes next (plain_op op) → are_fresh lanes next (plain_body (drop i items)) ≡ whole →
+    are_fresh lanes after (plain_body (drop (i + 1) items)) ≡ whole
+fresh-more lanes next after i items stmt op whole lt e is fresh a h =
+    ap (λ n. are_fresh lanes n (plain_body (drop (i + 1) items))) a
+    ∙ (ap (λ b. b && are_fresh lanes (put_after lanes next (plain_op op)) (plain_body (drop (i + 1) items))) (sym fresh) ∙ (sym (fresh-Do lanes next i items stmt op lt e is) ∙ h))
+
+-- ---- statements, one by one
+
+pub round-map : (loop : ℕ) (stmts : List PlainStmt) → exchanged_round loop (body_of stmts)
+    ≡ body_of (map (exchanged_stmt loop) stmts)
+round-map loop [] = refl
+round-map loop (plain.Do op ∷ rest) = ap (AndStmts (plain.Do (exchanged_op loop op))) (round-map loop rest)
+round-map loop (plain.Loop count body ∷ rest) = ap (AndStmts (plain.Loop count body)) (round-map loop rest)
+
+pub body-map : (lanes : ℕ) (stmts : List PlainStmt) → interchanged_body lanes (body_of stmts)
+    ≡ body_of (map (interchanged_nest lanes) stmts)
+body-map lanes [] = refl
+body-map lanes (stmt ∷ rest) = ap (AndStmts (interchanged_nest lanes stmt)) (body-map lanes rest)
+
+-- ---- shallow nests
+
+pub shallow-at : (stmts : List PlainStmt) (i : ℕ) (x d : PlainStmt) → are_shallow (body_of stmts) ≡ true →
+    x ≡ get_or stmts i d → i < length stmts → is_shallow x ≡ true
+shallow-at [] i x d h e lt = absurd (omega arith)
+shallow-at (y ∷ stmts) zero x d h e lt = ap is_shallow e ∙ (both_true (is_shallow y) _ h).0
+shallow-at (y ∷ stmts) (suc i) x d h e lt = shallow-at stmts i x d (both_true (is_shallow y) _ h).1 e (omega (arith, lt))
+
+pub all-shallow-at : (phases : List PlainBody) (i : ℕ) (x d : PlainBody) → list_all are_shallow phases ≡ true →
+    x ≡ get_or phases i d → i < length phases → are_shallow x ≡ true
+all-shallow-at phases i x d h e lt =
+    ap are_shallow e
+    ∙ All-get_or (λ b. are_shallow b ≡ true) phases i d lt (AllPass-from_list_all are_shallow phases h)
+
+-- ---- bodies of one loop and of others, as code takes them apart
 
 only : (items : List Stmt) (x : Stmt) → length items ≡ 1 → x ≡ get_or items 0 x → items ≡ x ∷ []
 only [] x one e = absurd (omega (arith, one))

@@ -12,7 +12,6 @@ pub mod Fresh
 pub mod Grouped
 pub mod InOrder
 pub mod InPlace
-pub mod Independent
 pub mod Items
 pub mod JoinedLoops
 pub mod Law
@@ -24,4 +23,3 @@ pub mod Phases
 pub mod Programs
 pub mod Rows
 pub mod Swaps
-pub mod Views

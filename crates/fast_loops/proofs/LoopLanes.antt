@@ -6,11 +6,8 @@ pub mod Everywhere
 pub mod FrontCovered
 pub mod FrontHeld
 pub mod Groups
-pub mod Held
 pub mod Law
 pub mod Limited
-pub mod LoadedAre
-pub mod LoadedRowsAre
 pub mod LoadsHeld
 pub mod LoadsMade
 pub mod LoadsTold
@@ -19,9 +16,7 @@ pub mod Nests
 pub mod OneLane
 pub mod Orders
 pub mod Renumbered
-pub mod RoundWrites
 pub mod RoundsAre
-pub mod RowHeld
 pub mod RowsAre
 pub mod Tiled
 pub mod Told

@@ -15,8 +15,7 @@ use Rattle.icode.proofs.Bools.{both_true}
 use Rattle.fast_loops.specs.Rounds.{are_fresh, put_after}
 use Rattle.fast_loops.specs.Interchange.{looped}
 use Rattle.fast_loops.proofs.Acts.{IsWide, AreWide, IsRound, AreApart}
-use Rattle.fast_loops.proofs.Independent.{independent}
-use Rattle.fast_loops.proofs.Swaps.{swapped, same-sym, IsSure, Commute, commute-loop}
+use Rattle.fast_loops.proofs.Swaps.{independent, swapped, same-sym, IsSure, Commute, commute-loop}
 use Rattle.fast_loops.proofs.Fresh.{fresh_acts}
 use Rattle.fast_loops.proofs.Changes.{AreFor, actions_of-loop, for-loop, in-loop}
 

@@ -1,5 +1,4 @@
 pub mod Cutting
-pub mod Dividing
 pub mod Law
 pub mod Listed
 pub mod Placed
@@ -7,5 +6,4 @@ pub mod Products
 pub mod Programs
 pub mod Pushed
 pub mod Registers
-pub mod Walked
 pub mod Within

@@ -7,8 +7,7 @@ use Rattle.icode.specs.Machine.{whole_lines}
 use Rattle.icode.specs.Plain.{PlainProgram}
 use Rattle.fast_loops.proofs.Acts.{IsRound, Loads, Stores, DoTheSame}
 use Rattle.fast_loops.proofs.Swaps.{IsSure, Commute, commute-append, commute-loop, same-sym, same-trans, same-append}
-use Rattle.fast_loops.proofs.Swaps.{same-loops, swapped}
-use Rattle.fast_loops.proofs.Independent.{independent}
+use Rattle.fast_loops.proofs.Swaps.{same-loops, swapped, independent}
 
 abbrev pub Touches : ℕ → List Action → ℕ → Type 0
 Touches lanes fs k = Loads lanes fs k ⊎ Stores lanes fs k

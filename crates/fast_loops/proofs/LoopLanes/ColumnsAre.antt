@@ -13,7 +13,7 @@ use Rattle.icode.specs.CodeLaws.Lanes.{lane_of}
 use Rattle.icode.proofs.CodeLaws.Stores.{length-registers}
 use Rattle.fast_loops.specs.Places.{are_linear, stride}
 use Rattle.fast_loops.specs.Rounds.{Stored, are_fresh}
-use Rattle.fast_loops.proofs.Independent.{loops_same}
+use Rattle.fast_loops.proofs.Swaps.{loops_same}
 use Rattle.fast_loops.proofs.Linear.{wrong}
 use Rattle.fast_loops.specs.LoopLanes.Columns.{Columns, Factors, renumbered, are_distinct, are_products}
 use Rattle.fast_loops.specs.LoopLanes.Columns.{factored_registers, front_length, last_products, plain_columns}
@@ -23,13 +23,12 @@ use Rattle.fast_loops.specs.LoopLanes.Layers.{Write, IsAfter, IsGroup, LeaveWrit
 use Rattle.fast_loops.specs.LoopLanes.Layers.{round_writes, group_writes}
 use Rattle.fast_loops.specs.LoopLanes.Rounds.{straight, is_store, is_by_lane, stores, others, stored_registers}
 use Rattle.fast_loops.specs.LoopLanes.Rounds.{stored_constants, are_from}
-use Rattle.fast_loops.proofs.LoopLanes.Held.{IsFront, HoldsBy, in_lanes, values_in}
-use Rattle.fast_loops.proofs.LoopLanes.FrontHeld.{front_held}
+use Rattle.fast_loops.proofs.LoopLanes.FrontHeld.{IsFront, HoldsBy, in_lanes, values_in, front_held}
 use Rattle.fast_loops.proofs.LoopLanes.Orders.{some_lanes, group_fits, all_taken, from_at, others_put, others_fresh}
-use Rattle.fast_loops.proofs.LoopLanes.Orders.{taken_fresh, length-stored_registers, stored_low, puts_low}
+use Rattle.fast_loops.proofs.LoopLanes.Orders.{taken_fresh, length-stored_registers, stored_low, puts_low, acts_in}
+use Rattle.fast_loops.proofs.LoopLanes.Orders.{acts-append, others_values, values_follow, products_low, products_put}
+use Rattle.fast_loops.proofs.LoopLanes.Orders.{writes_in_order}
 use Rattle.fast_loops.proofs.LoopLanes.Renumbered.{renumbered_is, renumbered_apart, renumbered_at}
-use Rattle.fast_loops.proofs.LoopLanes.RoundWrites.{acts_in, acts-append, others_values, values_follow, products_low}
-use Rattle.fast_loops.proofs.LoopLanes.RoundWrites.{products_put, writes_in_order}
 use Rattle.fast_loops.proofs.LoopLanes.Tiled.{Leave, AreLinearBy, stored_in, write_in, wide_acts, wide_follow, tile_ops}
 use Rattle.fast_loops.proofs.LoopLanes.Tiled.{in_tiles}
 use Rattle.fast_loops.proofs.LoopLanes.Turned.{by_rounds, by_tiles, turned_after}

@@ -5,8 +5,7 @@ use Rattle.std.proofs.Common.{length}
 use Rattle.fast_loops.proofs.LoopLanes.ColumnsAre.{columns_write, factored_columns_write}
 use Rattle.fast_loops.proofs.LoopLanes.Groups.{groups_write}
 use Rattle.fast_loops.proofs.LoopLanes.LoadsTold.{of_kinds}
-use Rattle.fast_loops.proofs.LoopLanes.LoadedAre.{loaded_write, loaded_factored_write}
-use Rattle.fast_loops.proofs.LoopLanes.LoadedRowsAre.{loaded_rows_write}
+use Rattle.fast_loops.proofs.LoopLanes.LoadsHeld.{loaded_write, loaded_factored_write, loaded_rows_write}
 use Rattle.fast_loops.proofs.LoopLanes.Nests.{lanes_follow}
 use Rattle.fast_loops.proofs.LoopLanes.RoundsAre.{rounds_are_lanes}
 use Rattle.fast_loops.proofs.LoopLanes.RowsAre.{rows_write}

@@ -21,7 +21,7 @@ use Rattle.fast_loops.specs.LoopLanes.Columns.{Factors, are_products, factored_r
 use Rattle.fast_loops.specs.LoopLanes.Columns.{front_length, last_products, plain_columns, factored_columns, are_by}
 use Rattle.fast_loops.specs.LoopLanes.Columns.{are_plain_columns, are_factored_columns, in_columns, are_columns}
 use Rattle.fast_loops.proofs.LoopLanes.Arrays.{array_same}
-use Rattle.fast_loops.proofs.LoopLanes.Orders.{others_put}
+use Rattle.fast_loops.proofs.LoopLanes.Orders.{others_put, row, row_first, row_fresh}
 use Rattle.fast_loops.proofs.LoopLanes.FrontCovered.{IsStored, IsMultiplied}
 use Rattle.std.proofs.lemmas.List.{length-take}
 use Rattle.icode.specs.Limits.{is_small}
@@ -33,7 +33,6 @@ use Rattle.fast_loops.specs.LoopLanes.Loads.{are_rows_from, behind, are_behind, 
 use Rattle.fast_loops.specs.LoopLanes.Loads.{in_loaded_rows_from, in_tiles, in_loaded_from}
 use Rattle.std.proofs.lemmas.List.FromFn.{length-map-range_with_len}
 use Rattle.icode.proofs.Lines.{Contains-map, Contains-range}
-use Rattle.fast_loops.proofs.LoopLanes.RoundWrites.{row, row_first, row_fresh}
 
 -- ---- operations that store, and others
 

@@ -27,7 +27,7 @@ use Rattle.fast_loops.proofs.LoopLanes.Covered.{IsOpCovered, lanes_from}
 use Rattle.fast_loops.proofs.LoopLanes.Everywhere.{all_lanes, all_rows, all_loads, all_columns}
 use Rattle.fast_loops.proofs.LoopLanes.FrontCovered.{AreLow, front_covered, IsStored, tile_covered, row_covered}
 use Rattle.fast_loops.proofs.LoopLanes.FrontCovered.{product_covered, load_covered}
-use Rattle.fast_loops.proofs.LoopLanes.LoadedRowsAre.{row_few}
+use Rattle.fast_loops.proofs.LoopLanes.LoadsHeld.{row_few}
 use Rattle.fast_loops.proofs.LoopLanes.LoadsTold.{IsRow, AreLoadedRows, of_good_kinds, loads_each, front_many, IsOther}
 use Rattle.fast_loops.proofs.LoopLanes.LoadsTold.{stored_each, AreGood, AreMultiplied}
 use Rattle.fast_loops.proofs.LoopLanes.Made.{tile_within}

@@ -27,9 +27,8 @@ use Rattle.fast_loops.specs.LoopLanes.Layers.{Write, IsAfter, IsGroup, LeaveWrit
 use Rattle.fast_loops.specs.LoopLanes.Layers.{steps_at, group_writes, writes_of}
 use Rattle.fast_loops.specs.LoopLanes.Rounds.{straight, is_by_lane, is_store, are_rows, in_row, widened}
 use Rattle.fast_loops.proofs.LoopLanes.Arrays.{IsOutside, other_outside}
-use Rattle.fast_loops.proofs.LoopLanes.Held.{AreHeld, in_lanes, values_in}
+use Rattle.fast_loops.proofs.LoopLanes.FrontHeld.{AreHeld, in_lanes, values_in, put_next}
 use Rattle.fast_loops.proofs.LoopLanes.FrontHeld as lanes
-use Rattle.fast_loops.proofs.LoopLanes.FrontHeld.{put_next}
 use Rattle.fast_loops.proofs.LoopLanes.Orders.{group_fits, register_low, writes_split, members_turned, values_stay}
 use Rattle.fast_loops.proofs.LoopLanes.Orders.{some_lanes}
 use Rattle.fast_loops.proofs.LoopLanes.Wide.{wide_value}

@@ -27,14 +27,13 @@ use Rattle.fast_loops.specs.LoopLanes.Layers.{Write, steps_at, writes_of, Groups
 use Rattle.fast_loops.proofs.LoopLanes.Arrays.{IsOutside, other_outside, step_before}
 use Rattle.fast_loops.proofs.LoopLanes.ColumnsAre.{columns_told, by_told, AreTurned}
 use Rattle.fast_loops.proofs.LoopLanes.LoadsTold.{of_kinds, IsRow, of_loaded_rows, of_loaded, of_good_kinds}
-use Rattle.fast_loops.proofs.LoopLanes.RoundWrites.{row}
+use Rattle.fast_loops.proofs.LoopLanes.Orders.{row, from_at}
 use Rattle.fast_loops.proofs.LoopLanes.OneLane.{IsPlaced, ArePlaced, IsLaneRound}
 use Rattle.fast_loops.proofs.Apart.{array-same}
 use Rattle.std.proofs.lemmas.List.Sums.{AllPass-from_list_all}
 use Rattle.icode.proofs.Lines.{Contains-nil}
 use Rattle.fast_loops.proofs.Changes.{of-loop}
-use Rattle.fast_loops.proofs.LoopLanes.Held.{values_in}
-use Rattle.fast_loops.proofs.LoopLanes.Orders.{from_at}
+use Rattle.fast_loops.proofs.LoopLanes.FrontHeld.{values_in}
 use Rattle.fast_loops.proofs.LoopLanes.Wide.{lane_value}
 
 -- ---- what holds of operations of all kinds

@@ -31,8 +31,7 @@ use Rattle.fast_loops.specs.TwoTables.TwoTables.{has_room, is_usable, is_cut_wel
 use Rattle.fast_loops.specs.TwoTables.TwoTables.{is_short, Split, split_at, factored_op, two_products, put_before}
 use Rattle.fast_loops.specs.TwoTables.TwoTables.{factored_stmt, factored_body, is_op_even, is_stmt_even}
 use Rattle.fast_loops.proofs.Rows.{factors_each, factors_fit}
-use Rattle.fast_loops.proofs.TwoTables.Dividing.{IsInBlock, in_block}
-use Rattle.fast_loops.proofs.TwoTables.Walked.{AreFactors, IsProduct, walked, table_small}
+use Rattle.fast_loops.proofs.TwoTables.Cutting.{IsInBlock, in_block, AreFactors, IsProduct, walked, table_small}
 use Rattle.fast_loops.proofs.TwoTables.Listed.{is-there, all-left, all-right, all-in-loop}
 use Rattle.fast_loops.proofs.TwoTables.Placed.{place_even, first_value, first_peak, second_value, second_peak}
 use Rattle.fast_loops.proofs.Linear.{by_equal, chosen}
