@@ -1,7 +1,6 @@
 pub mod Blocks
 pub mod Joins
 pub mod Law
-pub mod Limited
 pub mod Programs
 pub mod Seen
 pub mod Steps

@@ -2,13 +2,9 @@ pub mod TwoTables
 pub mod FusedLoops
 pub mod LoopLanes
 pub mod Acts
-pub mod Alone
 pub mod Apart
 pub mod Bools
-pub mod Changes
-pub mod Counted
 pub mod Counts
-pub mod Fresh
 pub mod Grouped
 pub mod InOrder
 pub mod InPlace
@@ -19,7 +15,6 @@ pub mod Limited
 pub mod Linear
 pub mod Looped
 pub mod Members
-pub mod Phases
 pub mod Programs
 pub mod Rows
 pub mod Swaps

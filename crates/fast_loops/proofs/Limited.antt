@@ -17,7 +17,7 @@ use Rattle.fast_loops.specs.View.{loops_in, is_shallow, are_shallow}
 use Rattle.fast_loops.proofs.Bools.{both_kept, later_kept, by_test}
 use Rattle.fast_loops.proofs.Linear.{first_cases, parts_cases}
 use Rattle.fast_loops.proofs.Looped.{looped_is}
-use Rattle.fast_loops.proofs.Phases.{all-within}
+use Rattle.fast_loops.proofs.InPlace.{all-within}
 
 -- ---- parts
 

@@ -5,7 +5,6 @@ pub mod Covered
 pub mod Everywhere
 pub mod FrontCovered
 pub mod FrontHeld
-pub mod Groups
 pub mod Law
 pub mod Limited
 pub mod LoadsHeld
@@ -15,7 +14,6 @@ pub mod Made
 pub mod Nests
 pub mod OneLane
 pub mod Orders
-pub mod Renumbered
 pub mod RoundsAre
 pub mod RowsAre
 pub mod Tiled

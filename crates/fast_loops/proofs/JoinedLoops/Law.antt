@@ -9,8 +9,7 @@ use Rattle.icode.specs.Actions.{PlainFits, steps_of_body, steps_of_phase, action
 use Rattle.icode.specs.Plain.{PlainBody, PlainProgram, NoStmts}
 use Rattle.fast_loops.specs.JoinedLoops.JoinedLoops.{joined_body, joined}
 use Rattle.fast_loops.specs.JoinedLoops.Laws.{JoinedDoesTheSame}
-use Rattle.fast_loops.proofs.InPlace.{no-more}
-use Rattle.fast_loops.proofs.Phases.{body_is, row, phase-is, members-fit}
+use Rattle.fast_loops.proofs.InPlace.{no-more, body_is, row, phase-is, members-fit}
 use Rattle.fast_loops.proofs.JoinedLoops.Steps.{body_joined}
 
 module _ (p : PlainProgram) where

@@ -7,7 +7,7 @@ use Rattle.std.proofs.lemmas.List.Elements.{All-nil, All-cons, All-append, All-m
 use Rattle.std.proofs.lemmas.List.Sums.{AllPass-from_list_all}
 use Rattle.icode.specs.Plain.{PlainOp, Store, Tile}
 use Rattle.fast_loops.specs.Rounds.{Stored}
-use Rattle.fast_loops.proofs.Changes.{of-loop}
+use Rattle.fast_loops.proofs.Rows.{of-loop}
 use Rattle.fast_loops.proofs.Members.{all_of_members}
 use Rattle.fast_loops.specs.LoopLanes.Rounds.{is_by_lane, in_row}
 use Rattle.fast_loops.specs.LoopLanes.Columns.{Columns, renumbered, renumbered_op, product_at, row_at, tile_at}

@@ -27,9 +27,8 @@ use Rattle.fast_loops.specs.Places.{is_linear}
 use Rattle.fast_loops.proofs.Acts.{loaded_words}
 use Rattle.fast_loops.proofs.Linear.{wrong}
 use Rattle.fast_loops.proofs.LoopLanes.Wide.{wide_value}
-use Rattle.fast_loops.proofs.Fresh.{two-sources, one-source}
+use Rattle.fast_loops.proofs.Rows.{two-sources, one-source, factors_each}
 use Rattle.fast_loops.proofs.TwoTables.Products.{factor_at}
-use Rattle.fast_loops.proofs.Rows.{factors_each}
 use Rattle.icode.specs.declared.action.Action.TheVariants as actions
 
 -- the registers of v lanes hold what each round has put: f r what register r holds, for each register below the next

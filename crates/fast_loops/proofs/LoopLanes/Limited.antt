@@ -24,7 +24,7 @@ use Rattle.std.proofs.lemmas.List.Elements.{All-nil, All-cons, All-head, All-tai
 use Rattle.fast_loops.specs.Interchange.{counts_in, round_in, looped}
 use Rattle.fast_loops.proofs.Looped.{looped_is}
 use Rattle.fast_loops.proofs.Members.{all_of_members}
-use Rattle.fast_loops.proofs.Phases.{all-within}
+use Rattle.fast_loops.proofs.InPlace.{all-within}
 use Rattle.fast_loops.specs.LoopLanes.Loads.{Loaded, behind, load_tiles}
 use Rattle.fast_loops.specs.LoopLanes.Lanes.{IsLanes, can_lane, laned_ops, laned_round, last_count, is_lanable}
 use Rattle.fast_loops.specs.LoopLanes.Lanes.{are_lanable, narrowed, laned_nest, laned_body}
@@ -34,7 +34,7 @@ use Rattle.fast_loops.proofs.LoopLanes.LoadsTold.{IsRow, of_good_kinds, loads_ea
 use Rattle.fast_loops.proofs.LoopLanes.LoadsTold.{AreMultiplied}
 use Rattle.fast_loops.proofs.LoopLanes.Nests.{straight-is}
 use Rattle.fast_loops.proofs.LoopLanes.Made.{tile_within}
-use Rattle.fast_loops.proofs.LoopLanes.Renumbered.{renumbered_is}
+use Rattle.fast_loops.proofs.LoopLanes.ColumnsAre.{renumbered_is}
 use Rattle.fast_loops.proofs.LoopLanes.Wide.{moved}
 
 -- ---- places

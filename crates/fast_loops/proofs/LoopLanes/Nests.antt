@@ -14,7 +14,7 @@ use Rattle.icode.specs.Plain.{PlainProgram, PlainOp, PlainStmt, PlainBody, Loop,
 use Rattle.icode.proofs.Lines.{Contains-nil}
 use Rattle.icode.proofs.CodeLaws.ByLane.{lists_follow}
 use Rattle.icode.proofs.CodeLaws.Stores.{length-registers}
-use Rattle.fast_loops.proofs.Changes.{actions_of-append, in-loop}
+use Rattle.fast_loops.proofs.Rows.{actions_of-append, in-loop, StepsFit, all_fit}
 use Rattle.fast_loops.proofs.Members.{all_of_members, IsWithin}
 use Rattle.fast_loops.specs.LoopLanes.Layers.{AreLanesFor, memory_by, on_lanes, IsGroup, RoundsAreLanes, steps_at}
 use Rattle.fast_loops.specs.LoopLanes.Layers.{group_at, LanesFollow}
@@ -28,7 +28,6 @@ use Rattle.fast_loops.specs.Interchange.{counts_in, round_in, looped}
 use Rattle.fast_loops.proofs.Grouped.{in_groups}
 use Rattle.fast_loops.proofs.Linear.{wrong}
 use Rattle.fast_loops.proofs.Looped.{looped_is}
-use Rattle.fast_loops.proofs.Rows.{StepsFit, all_fit}
 use Rattle.fast_loops.specs.LoopLanes.Rounds.{straight, ops_in, stores}
 use Rattle.fast_loops.specs.LoopLanes.Lanes.{IsLanes, can_lane, laned_ops, laned_round, last_count, is_lanable}
 use Rattle.fast_loops.specs.LoopLanes.Lanes.{are_lanable, narrowed, laned_nest, laned_body, can_be_laned, laned}
@@ -36,8 +35,8 @@ use Rattle.fast_loops.proofs.LoopLanes.Told.{straight_steps}
 use Rattle.std.proofs.lemmas.List.{length-map, length-replicate}
 use Rattle.fast_loops.specs.TwoTables.Laws.{IsInPlaceOf}
 use Rattle.fast_loops.proofs.InOrder.{Keep, keep-many}
-use Rattle.fast_loops.proofs.InPlace.{StandFor, no-more, memory-same, in-place, where-true}
-use Rattle.fast_loops.proofs.Phases.{with_phases, passes-at, phase-is, members-fit}
+use Rattle.fast_loops.proofs.InPlace.{StandFor, no-more, memory-same, in-place, where-true, with_phases, passes-at}
+use Rattle.fast_loops.proofs.InPlace.{phase-is, members-fit}
 
 -- ---- what comes after other actions
 

@@ -15,7 +15,7 @@ use Rattle.icode.specs.Plain.{PlainOp, PlainProgram, Load, Store, Zero, Add, Sub
 use Rattle.icode.specs.Plain.{PlainParts, Sum}
 use Rattle.icode.proofs.Bools.{both_true}
 use Rattle.fast_loops.specs.Rounds.{is_fresh, put_after, are_fresh, Stored, same_array}
-use Rattle.fast_loops.proofs.Changes.{in-loop}
+use Rattle.fast_loops.proofs.Rows.{in-loop}
 use Rattle.fast_loops.proofs.Members.{all_of_members, into_flat_map, from_flat_map}
 use Rattle.fast_loops.specs.LoopLanes.Lanes.{IsLanes}
 use Rattle.fast_loops.specs.LoopLanes.Layers.{steps_at, group_at, values_put, writes_of, Write}

@@ -22,7 +22,7 @@ use Rattle.fast_loops.specs.LoopLanes.Lanes.{can_lane, laned_ops}
 use Rattle.fast_loops.specs.LoopLanes.Loads.{Loaded, behind, load_at, load_tile, load_tiles, in_tiles}
 use Rattle.fast_loops.specs.LoopLanes.Layers.{IsGroup, GroupsWrite, GroupsAreSure, LanesWrite, RoundsAreLanes}
 use Rattle.fast_loops.specs.LoopLanes.Layers.{group_writes, steps_at, group_at, on_lanes}
-use Rattle.fast_loops.proofs.LoopLanes.ColumnsAre.{short-others}
+use Rattle.fast_loops.proofs.LoopLanes.ColumnsAre.{short-others, renumbered_is}
 use Rattle.fast_loops.proofs.LoopLanes.Covered.{IsOpCovered, lanes_from}
 use Rattle.fast_loops.proofs.LoopLanes.Everywhere.{all_lanes, all_rows, all_loads, all_columns}
 use Rattle.fast_loops.proofs.LoopLanes.FrontCovered.{AreLow, front_covered, IsStored, tile_covered, row_covered}
@@ -32,7 +32,6 @@ use Rattle.fast_loops.proofs.LoopLanes.LoadsTold.{IsRow, AreLoadedRows, of_good_
 use Rattle.fast_loops.proofs.LoopLanes.LoadsTold.{stored_each, AreGood, AreMultiplied}
 use Rattle.fast_loops.proofs.LoopLanes.Made.{tile_within}
 use Rattle.fast_loops.proofs.LoopLanes.Orders.{are_some, some_lanes}
-use Rattle.fast_loops.proofs.LoopLanes.Renumbered.{renumbered_is}
 use Rattle.fast_loops.proofs.LoopLanes.Writes.{order_is_free}
 
 -- ---- how many steps there are

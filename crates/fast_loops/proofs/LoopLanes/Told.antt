@@ -3,7 +3,7 @@ use Rattle.std.proofs.Common.{◌≡◌, ℕ, zero, suc, ◌+◌, ◌<◌, ◌�
 use Rattle.std.proofs.Common.{None, Option, refl, sym, ap, ap₂, ◌∙◌, subst, arith, ⊎_elim, take-append-drop, ◌⊎◌, ◌*◌}
 use Rattle.std.proofs.Common.{Bool, length, Contains, inl, inr, leb-true}
 use Rattle.std.specs.Prelude.{◌==◌, slice_index, nat_le}
-use Rattle.std.specs.List.{list_all}
+use Rattle.std.specs.List.{list_all, range_with_len}
 use Rattle.std.proofs.lemmas.Bool.{not-true, or_cases, cases_order}
 use Rattle.std.proofs.lemmas.List.Elements.{All-head, All-tail, All-get_or}
 use Rattle.icode.specs.declared.program.Array.{Array}
@@ -16,7 +16,7 @@ use Rattle.fast_loops.specs.Places.{stride, same_parts, are_linear}
 use Rattle.fast_loops.specs.Rounds.{Stored, same_array, are_fresh}
 use Rattle.fast_loops.proofs.Acts.{IsRound}
 use Rattle.fast_loops.proofs.Linear.{wrong, parts_equal}
-use Rattle.fast_loops.proofs.Rows.{round_acts}
+use Rattle.fast_loops.proofs.Rows.{round_acts, of-loop, actions_of-loop}
 use Rattle.fast_loops.specs.LoopLanes.Rounds.{straight, is_by_lane, stores, others, stored_registers, stored_constants}
 use Rattle.fast_loops.specs.LoopLanes.Rounds.{are_from, is_clear, are_clear}
 use Rattle.fast_loops.specs.LoopLanes.Columns.{Columns, Factors, plain_columns, factored_columns, front_length}
@@ -24,15 +24,15 @@ use Rattle.fast_loops.specs.LoopLanes.Columns.{last_products, are_products, are_
 use Rattle.fast_loops.specs.LoopLanes.Lanes.{can_lane}
 use Rattle.fast_loops.specs.LoopLanes.Loads.{Loaded, behind, are_loaded}
 use Rattle.fast_loops.specs.LoopLanes.Layers.{Write, steps_at, writes_of, GroupsAreSure, round_writes, group_writes}
+use Rattle.fast_loops.specs.LoopLanes.Layers.{memory_by, GroupsWrite}
 use Rattle.fast_loops.proofs.LoopLanes.Arrays.{IsOutside, other_outside, step_before}
 use Rattle.fast_loops.proofs.LoopLanes.ColumnsAre.{columns_told, by_told, AreTurned}
 use Rattle.fast_loops.proofs.LoopLanes.LoadsTold.{of_kinds, IsRow, of_loaded_rows, of_loaded, of_good_kinds}
-use Rattle.fast_loops.proofs.LoopLanes.Orders.{row, from_at}
-use Rattle.fast_loops.proofs.LoopLanes.OneLane.{IsPlaced, ArePlaced, IsLaneRound}
+use Rattle.fast_loops.proofs.LoopLanes.Orders.{row, from_at, group_fits}
+use Rattle.fast_loops.proofs.LoopLanes.OneLane.{IsPlaced, ArePlaced, IsLaneRound, rounds_write}
 use Rattle.fast_loops.proofs.Apart.{array-same}
 use Rattle.std.proofs.lemmas.List.Sums.{AllPass-from_list_all}
 use Rattle.icode.proofs.Lines.{Contains-nil}
-use Rattle.fast_loops.proofs.Changes.{of-loop}
 use Rattle.fast_loops.proofs.LoopLanes.FrontHeld.{values_in}
 use Rattle.fast_loops.proofs.LoopLanes.Wide.{lane_value}
 
@@ -414,3 +414,20 @@ groups_are_sure v p to ops vs b q group can memory =
   where
     meet : (base m n c d : ℕ) → base + m + c ≡ base + n + d → m + c ≡ n + d
     meet base m n c d e = omega (arith, e)
+
+-- ---- groups of rounds of one lane leave what their rounds write, each from the memory before all of them
+
+-- a round of the group
+abbrev round_at : ℕ → PlainProgram → List PlainOp → List ℕ → ℕ → ℕ → ℕ → List Step
+round_at v p ops vs b q l = steps_at p ops (vs ++ (v * b + l) ∷ []) q
+
+pub groups_write : GroupsWrite
+groups_write v p to ops vs b q group can s memory room =
+    ap (λ acts. memory_by p.modulus 1 acts s memory) (actions_of-loop (round_at v p ops vs b q) (range_with_len 0 v))
+    ∙ rounds_write p.modulus (IsInto p to) p.regs memory (λ l. actions_of (round_at v p ops vs b q l)) v 0 s memory
+    each room (λ k outside. refl)
+  where
+    each : (l : ℕ) → 0 ≤ l → l < 0 + v → IsLaneRound (IsInto p to) p.regs (actions_of (round_at v p ops vs b q l))
+    each l low high =
+        lane_round p to ops (vs ++ (v * b + l) ∷ []) q group.alone group.fresh (told v _ to ops can)
+        (group_fits v p ops vs b q l (omega (arith, high)) group.fits)

@@ -5,7 +5,7 @@ use Rattle.std.specs.List.{range_with_len}
 use Rattle.std.proofs.lemmas.Bool.{cases_lt}
 use Rattle.icode.proofs.Lines.{Contains-map, Contains-nil, Contains-range}
 use Rattle.fast_loops.specs.LoopLanes.Layers.{Write, IsAfter, written}
-use Rattle.fast_loops.proofs.Changes.{in-loop, of-loop}
+use Rattle.fast_loops.proofs.Rows.{in-loop, of-loop}
 use Rattle.fast_loops.proofs.LoopLanes.Made.{tile_within}
 
 -- ---- items of loops

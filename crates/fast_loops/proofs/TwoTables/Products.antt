@@ -13,7 +13,7 @@ use Rattle.icode.specs.Machine.{Local, effects}
 use Rattle.icode.specs.Plain.{PlainProgram, PlainExpr, PlainOp, MulTable, PlainStmt, PlainBody, Loop, Do, NoStmts}
 use Rattle.icode.specs.Plain.{AndStmts}
 use Rattle.icode.proofs.Phase.{effects-append}
-use Rattle.fast_loops.proofs.Changes.{actions_of-append}
+use Rattle.fast_loops.proofs.Rows.{actions_of-append, factors_each, factors_fit}
 use Rattle.fast_loops.proofs.Swaps.{in-loops}
 use Rattle.fast_loops.proofs.TwoTables.Registers.{AreLike, like_after, like_products}
 use Rattle.std.specs.Prelude.{slice_index, slice_index_or, slice_set, nat_lt, nat_le}
@@ -30,7 +30,6 @@ use Rattle.fast_loops.specs.TwoTables.Places.{is_even, place_in_first, place_in_
 use Rattle.fast_loops.specs.TwoTables.TwoTables.{has_room, is_usable, is_cut_well, can_split, in_factors, is_body_even}
 use Rattle.fast_loops.specs.TwoTables.TwoTables.{is_short, Split, split_at, factored_op, two_products, put_before}
 use Rattle.fast_loops.specs.TwoTables.TwoTables.{factored_stmt, factored_body, is_op_even, is_stmt_even}
-use Rattle.fast_loops.proofs.Rows.{factors_each, factors_fit}
 use Rattle.fast_loops.proofs.TwoTables.Cutting.{IsInBlock, in_block, AreFactors, IsProduct, walked, table_small}
 use Rattle.fast_loops.proofs.TwoTables.Listed.{is-there, all-left, all-right, all-in-loop}
 use Rattle.fast_loops.proofs.TwoTables.Placed.{place_even, first_value, first_peak, second_value, second_peak}

@@ -24,8 +24,8 @@ use Rattle.icode.specs.Lengths.{len_of_body}
 use Rattle.icode.proofs.Lengths.{body_length}
 use Rattle.fast_loops.specs.TwoTables.Laws.{IsInPlaceOf}
 use Rattle.fast_loops.proofs.InOrder.{Keep}
-use Rattle.fast_loops.proofs.InPlace.{StandFor, total, memory-same, in-place, itself, where-true, after}
-use Rattle.fast_loops.proofs.Phases.{passes-at, body-at}
+use Rattle.fast_loops.proofs.InPlace.{StandFor, total, memory-same, in-place, itself, where-true, after, passes-at}
+use Rattle.fast_loops.proofs.InPlace.{body-at}
 use Rattle.fast_loops.proofs.TwoTables.Registers.{HaveOneMore, AreLike, one-more-first}
 
 -- ---- few steps

@@ -16,7 +16,7 @@ use Rattle.fast_loops.specs.TwoTables.TwoTables.{Split, factored_op, two_product
 use Rattle.fast_loops.specs.TwoTables.TwoTables.{factored_body, is_op_even, is_stmt_even, is_body_even}
 use Rattle.fast_loops.proofs.Bools.{later_kept}
 use Rattle.fast_loops.proofs.Linear.{by_equal, chosen}
-use Rattle.fast_loops.proofs.Phases.{all-within}
+use Rattle.fast_loops.proofs.InPlace.{all-within}
 
 -- ---- places
 
