@@ -1,7 +1,7 @@
 -- A nest with its loops in order does what the nest did, and so do bodies of phases and programs.
 use Rattle.std.proofs.Common.{◌≡◌, ℕ, ◌+◌, ◌*◌, List, [], ◌∷◌, length, refl, sym, ap, ap₂, ◌∙◌, arith, mul_left_comm}
-use Rattle.std.proofs.Common.{◌≢◌, ◌⊎◌, ◌&&◌, ◌<◌, ◌++◌, Bool, true, false, All, Option, Some, None, flat_map, subst}
-use Rattle.std.proofs.Common.{append-nil, append_assoc, length-append, map}
+use Rattle.std.proofs.Common.{◌≢◌, ◌⊎◌, ◌&&◌, ◌<◌, ◌++◌, true, All, Option, Some, None, flat_map, subst, append-nil}
+use Rattle.std.proofs.Common.{append_assoc, length-append, map}
 use Rattle.icode.specs.Actions.{steps_of_body, Step, StepFits, actions_of, steps_of_stmt, PlainFits, steps_of_phase}
 use Rattle.icode.specs.Actions.{plain_code}
 use Rattle.icode.specs.Lengths.{len_of_stmt, len_of_body}
@@ -14,7 +14,7 @@ use Rattle.fast_loops.specs.Interchange.{Nest, counts_in, round_in, looped, nest
 use Rattle.fast_loops.specs.Interchange.{interchanged_nest, interchanged_body, is_nest, are_nests, interchanged}
 use Rattle.fast_loops.proofs.Bools.{by_test}
 use Rattle.fast_loops.proofs.Looped.{looped_is}
-use Rattle.std.specs.Prelude.{if◌then◌else◌, slice_index_or}
+use Rattle.std.specs.Prelude.{slice_index_or}
 use Rattle.std.specs.List.{range_with_len, list_all}
 use Rattle.std.proofs.Math.Path.{fun_ext}
 use Rattle.std.proofs.lemmas.List.Elements.{Contains-append_left, Contains-append_right, All-contains}
@@ -251,23 +251,6 @@ module _ (p : PlainProgram) (q : ℕ) where
       alone_for p q _ _ (loops_for p q (λ i. rows p q (nest.outer ∷ nest.inner) nest.round (vs ++ i ∷ [])) (λ i. rows p q counts round (vs ++ i ∷ [])) count
       (λ i lt. inside.same (vs ++ i ∷ []) (in_more outers vs count i in_range lt)))
 
-  -- two loops that are interchanged, or not
-  either_in_place : (loop : ℕ) (outers : List ℕ) (outer count : ℕ) (counts : List ℕ) (round : PlainBody) (deeper : Nest)
-      (b : Bool) → length outers ≡ loop →
-      AreFree p q outers (outer ∷ count ∷ counts) round → IsInPlace p q (outers ++ count ∷ []) deeper (outer ∷ counts)
-      (exchanged_round loop round) →
-      IsInPlace p q outers (if b then within count deeper else record { outer = outer; inner = count ∷ counts; round = round }) (outer ∷ count ∷ counts) round
-  either_in_place loop outers outer count counts round deeper true deep free inside =
-      record {
-        free = free_outside outers count (deeper.outer ∷ deeper.inner) deeper.round inside.free;
-        same = λ vs in_range.
-            for-trans p.modulus p.lanes (rows p q (count ∷ deeper.outer ∷ deeper.inner) deeper.round vs)
-            (rows p q (count ∷ outer ∷ counts) (exchanged_round loop round) vs) (rows p q (outer ∷ count ∷ counts) round vs)
-            (within_for outers count deeper (outer ∷ counts) (exchanged_round loop round) vs in_range inside)
-            (turned_for loop outers outer count counts round vs deep in_range free);
-      }
-  either_in_place loop outers outer count counts round deeper false deep free inside = itself outers outer (count ∷ counts) round free
-
   one_deeper : (loop : ℕ) (outers : List ℕ) (count : ℕ) → length outers ≡ loop →
       length (outers ++ count ∷ []) ≡ loop + 1
   one_deeper loop outers count deep = let long = length-append outers (count ∷ []) in omega (arith, long, deep)
@@ -278,9 +261,25 @@ module _ (p : PlainProgram) (q : ℕ) where
       (outer ∷ counts) round
   sunk_in_place loop outers outer [] round deep free = itself outers outer [] round free
   sunk_in_place loop outers outer (count ∷ counts) round deep free =
-      either_in_place loop outers outer count counts round (sunk (loop + 1) outer counts (exchanged_round loop round)) (steps_less loop (first_load round)) deep free
-      (sunk_in_place (loop + 1) (outers ++ count ∷ []) outer counts (exchanged_round loop round) (one_deeper loop outers count deep)
-      (free_inside outers count (outer ∷ counts) (exchanged_round loop round) (turned_free loop outers outer count counts round deep free)))
+      let deeper : Nest = sunk (loop + 1) outer counts (exchanged_round loop round) in
+      by_test (λ nest. IsInPlace p q outers nest (outer ∷ count ∷ counts) round) (steps_less loop (first_load round))
+      (within count deeper) (record { outer = outer; inner = count ∷ counts; round = round })
+      (λ less.
+      let inside =
+      sunk_in_place (loop + 1) (outers ++ count ∷ []) outer counts (exchanged_round loop round)
+      (one_deeper loop outers count deep)
+      (free_inside outers count (outer ∷ counts) (exchanged_round loop round)
+      (turned_free loop outers outer count counts round deep free)) in
+      record {
+        free = free_outside outers count (deeper.outer ∷ deeper.inner) deeper.round inside.free;
+        same = λ vs in_range.
+            for-trans p.modulus p.lanes (rows p q (count ∷ deeper.outer ∷ deeper.inner) deeper.round vs)
+            (rows p q (count ∷ outer ∷ counts) (exchanged_round loop round) vs)
+            (rows p q (outer ∷ count ∷ counts) round vs)
+            (within_for outers count deeper (outer ∷ counts) (exchanged_round loop round) vs in_range inside)
+            (turned_for loop outers outer count counts round vs deep in_range free);
+      })
+      (λ stays. itself outers outer (count ∷ counts) round free)
 
   ordered_in_place : (loop : ℕ) (outers : List ℕ) (outer : ℕ) (counts : List ℕ) (round : PlainBody) →
       length outers ≡ loop →
@@ -320,13 +319,20 @@ module _ (p : PlainProgram) (q : ℕ) where
       }
 
   -- a nest that gets its loops in order, or not
-  chosen_for : (count : ℕ) (body : PlainBody) (b : Bool) →
-      are_independent p.lanes (count ∷ counts_in body) (first_store (round_in body)) (round_in body) ≡ b →
-      are_fresh p.lanes 0 (round_in body) ≡ true → StepsFit p (steps_of_stmt p (Loop count body) [] q) →
-      For p q (steps_of_stmt p (if b then nest_stmt (ordered 0 count (counts_in body) (round_in body)) else Loop count
-      body) [] q)
-      (steps_of_stmt p (Loop count body) [] q)
-  chosen_for count body b e fresh fit = either b e
+  stmt_for : (stmt : PlainStmt) → is_nest p.lanes stmt ≡ true → StepsFit p (steps_of_stmt p stmt [] q) →
+      For p q (steps_of_stmt p (interchanged_nest p.lanes stmt) [] q) (steps_of_stmt p stmt [] q)
+  stmt_for (Loop count body) fresh fit =
+      by_test (λ stmt. For p q (steps_of_stmt p stmt [] q) (steps_of_stmt p (Loop count body) [] q))
+      (are_independent p.lanes counts (first_store (round_in body)) (round_in body)) (nest_stmt nest) (Loop count body)
+      (λ e.
+      let free =
+      independent_free counts (round_in body) (first_store (round_in body)) e fresh
+      (subst (StepsFit p) (sym rows_are) fit) in
+      subst (For p q (steps_of_stmt p (nest_stmt nest) [] q)) rows_are
+      (subst (λ xs. For p q xs (rows p q counts (round_in body) []))
+      (append-nil (steps_of_stmt p (nest_stmt nest) [] q))
+      ((ordered_in_place 0 [] count (counts_in body) (round_in body) refl free).same [] tt)))
+      (λ e. subst (λ xs. For p q xs xs) rows_are (rows_itself p q counts (round_in body) [] fresh))
     where
       counts : List ℕ
       counts = count ∷ counts_in body
@@ -337,21 +343,6 @@ module _ (p : PlainProgram) (q : ℕ) where
 
       nest : Nest
       nest = ordered 0 count (counts_in body) (round_in body)
-
-      either : (b : Bool) → are_independent p.lanes counts (first_store (round_in body)) (round_in body) ≡ b →
-          For p q (steps_of_stmt p (if b then nest_stmt nest else Loop count body) [] q)
-          (steps_of_stmt p (Loop count body) [] q)
-      either true e =
-          let free = independent_free counts (round_in body) (first_store (round_in body)) e fresh (subst (StepsFit p) (sym rows_are) fit) in
-          subst (For p q (steps_of_stmt p (nest_stmt nest) [] q)) rows_are
-          (subst (λ xs. For p q xs (rows p q counts (round_in body) [])) (append-nil (steps_of_stmt p (nest_stmt nest) [] q))
-          ((ordered_in_place 0 [] count (counts_in body) (round_in body) refl free).same [] tt))
-      either false e = subst (λ xs. For p q xs xs) rows_are (rows_itself p q counts (round_in body) [] fresh)
-
-  stmt_for : (stmt : PlainStmt) → is_nest p.lanes stmt ≡ true → StepsFit p (steps_of_stmt p stmt [] q) →
-      For p q (steps_of_stmt p (interchanged_nest p.lanes stmt) [] q) (steps_of_stmt p stmt [] q)
-  stmt_for (Loop count body) h fit =
-      chosen_for count body (are_independent p.lanes (count ∷ counts_in body) (first_store (round_in body)) (round_in body)) refl h fit
   stmt_for (Do op) h fit = cc
 
   -- ---- bodies of phases

@@ -204,17 +204,6 @@ module _ (p : PlainProgram) (q : ℕ) where
         ),
   )
 
-  put-ends : (count : ℕ) (inside made : PlainBody) (block : Block) (blocks : List Block) (vs : List ℕ) (base : ℕ) →
-      are_fresh p.lanes 0 (round_in inside) ≡ true →
-      HasBlocks p q (block ∷ blocks) (AndStmts (Loop count inside) NoStmts) vs base →
-      Ends (block ∷ blocks) (put_behind (Loop count inside) made) vs base
-  put-ends count inside made block blocks vs base fresh h =
-      let end = nest-ends (AndStmts (Loop count inside) NoStmts) (block ∷ blocks) vs base fresh h in (
-        end.0,
-        subst (λ s. EndsIn block.count end.0 (put_behind s made)) (sym end.1) (ends-put block.count end.0 made),
-        end.2,
-      )
-
   -- ---- a nest goes after others
 
   -- it does what it did, and stands at the end
@@ -235,7 +224,12 @@ module _ (p : PlainProgram) (q : ℕ) where
       at_end NoStmts (block ∷ blocks) fresh h = absurd h
       at_end (AndStmts (Do op) rest) (block ∷ blocks) fresh h = absurd h
       at_end (AndStmts (Loop count inside) (AndStmts stmt rest)) (block ∷ blocks) fresh h = absurd h
-      at_end (AndStmts (Loop count inside) NoStmts) (block ∷ blocks) fresh h = put-ends count inside made block blocks vs base fresh h
+      at_end (AndStmts (Loop count inside) NoStmts) (block ∷ blocks) fresh h =
+          let end = nest-ends (AndStmts (Loop count inside) NoStmts) (block ∷ blocks) vs base fresh h in (
+            end.0,
+            subst (λ s. EndsIn block.count end.0 (put_behind s made)) (sym end.1) (ends-put block.count end.0 made),
+            end.2,
+          )
 
   -- into the last loop, which has the same block
   module _ (n : ℕ) (block : Block) (bs cs : List Block) (inner made : PlainBody) (vs : List ℕ) (base : ℕ) (fresh : are_fresh p.lanes 0 (round_in inner) ≡ true)

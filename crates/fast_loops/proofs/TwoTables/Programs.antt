@@ -24,6 +24,7 @@ use Rattle.icode.specs.Lengths.{len_of_body}
 use Rattle.icode.proofs.Lengths.{body_length}
 use Rattle.fast_loops.specs.TwoTables.Laws.{IsInPlaceOf}
 use Rattle.fast_loops.proofs.InOrder.{Keep}
+use Rattle.fast_loops.proofs.Bools.{by_test}
 use Rattle.fast_loops.proofs.InPlace.{StandFor, total, memory-same, in-place, itself, where-true, after, passes-at}
 use Rattle.fast_loops.proofs.InPlace.{body-at}
 use Rattle.fast_loops.proofs.TwoTables.Registers.{HaveOneMore, AreLike, one-more-first}
@@ -254,15 +255,16 @@ some_width least table p cut may =
 
 -- there are no fewer tables
 pub no_fewer : (least table : ℕ) (p : PlainProgram) → length p.tables ≤ length (factored_at least p table).tables
-no_fewer least table p = of_choice (may_be_split least p table (cut_of (slice_index_or p.tables table [])) && is_cut_well p table (cut_of (slice_index_or p.tables table [])))
-  where
-    split_cut : Cut
-    split_cut = cut_of (slice_index_or p.tables table [])
-
-    of_choice : (b : Bool) → length p.tables ≤ length (if b then in_factors p table split_cut else p).tables
-    of_choice true =
-        omega (arith, length-set p.tables table (first_factor split_cut (slice_index_or p.tables table [])), length-append (slice_set p.tables table (first_factor split_cut (slice_index_or p.tables table []))) (second_factor split_cut (slice_index_or p.tables table []) ∷ []))
-    of_choice false = omega arith
+no_fewer least table p =
+    let cut : Cut = cut_of (slice_index_or p.tables table []) in
+    let first : List ℕ = first_factor cut (slice_index_or p.tables table []) in
+    let second : List ℕ = second_factor cut (slice_index_or p.tables table []) in
+    by_test (λ (q : PlainProgram). length p.tables ≤ length q.tables)
+    (may_be_split least p table cut && is_cut_well p table cut) (in_factors p table cut) p
+    (λ e.
+    let long = length-append (slice_set p.tables table first) (second ∷ []) in
+    omega (arith, length-set p.tables table first, long))
+    (λ e. omega arith)
 
 -- ---- one table after another
 
