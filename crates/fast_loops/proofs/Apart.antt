@@ -1,4 +1,5 @@
 -- Different rounds of loops one in the other are apart.
+use Rattle.fast_loops.proofs.Bools.{three_true}
 use Rattle.std.proofs.Common.{◌≡◌, ◌≢◌, ◌⊎◌, ℕ, zero, suc, ◌<◌, List, [], ◌∷◌, ◌++◌, drop, length, refl, ap, ⊎_elim}
 use Rattle.std.proofs.Common.{◌+◌, ◌*◌, ◌≤◌, true, sym, ap₂, ◌∙◌, arith, inl, inr, leb-true, mul-le-mul_left, false}
 use Rattle.std.proofs.Common.{not, All, Contains, flat_map, true≢false}
@@ -388,18 +389,17 @@ pub apart_rounds : (p : PlainProgram) (counts : List ℕ) (to : Stored) (body : 
 apart_rounds p counts to body vs ws q apart low lower other fit fits =
     let parts : PlainParts = to.parts in
     let step : ℕ = last_stride 0 counts parts in
-    let two = both_true (are_linear 0 parts) _ apart in
-    let more = both_true (are_nested 0 counts parts) (are_placed p.lanes to step body) two.1 in
-    let one = value_by_strides 0 parts vs q two.0 in
-    let another = value_by_strides 0 parts ws q two.0 in
+    let more = three_true (are_linear 0 parts) (are_nested 0 counts parts) (are_placed p.lanes to step body) apart in
+    let one = value_by_strides 0 parts vs q more.0 in
+    let another = value_by_strides 0 parts ws q more.0 in
     record {
-      into = λ k s t. never-both p to _ step k (stored-in p step to body vs q k more.1 fit s) (loaded-in p step to body ws q k more.1 fits t);
-      from = λ k s t. never-both p to _ step k (stored-in p step to body ws q k more.1 fits t) (loaded-in p step to body vs q k more.1 fit s);
+      into = λ k s t. never-both p to _ step k (stored-in p step to body vs q k more.2 fit s) (loaded-in p step to body ws q k more.2 fits t);
+      from = λ k s t. never-both p to _ step k (stored-in p step to body ws q k more.2 fits t) (loaded-in p step to body vs q k more.2 fit s);
       words = λ k s t.
-          let first = stored-in p step to body vs q k more.1 fit s in
-          let second = stored-in p step to body ws q k more.1 fits t in
+          let first = stored-in p step to body vs q k more.2 fit s in
+          let second = stored-in p step to body ws q k more.2 fits t in
           ⊎_elim
           (λ (h : added 0 vs parts + step ≤ added 0 ws parts). never-same p to _ _ step k (omega (arith, one, another, h)) first second)
           (λ (h : added 0 ws parts + step ≤ added 0 vs parts). never-same p to _ _ step k (omega (arith, one, another, h)) second first)
-          (rounds_differ 0 counts parts vs ws more.0 low lower other);
+          (rounds_differ 0 counts parts vs ws more.1 low lower other);
     }

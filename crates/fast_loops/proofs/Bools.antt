@@ -17,3 +17,12 @@ pub by_test : {X : Type 0} (P : X → Type 0) (t : Bool) (x y : X) → (t ≡ tr
     P (if t then x else y)
 by_test P true x y first second = first refl
 by_test P false x y first second = second refl
+
+-- tests of three things, and of four
+pub three_true : (a b c : Bool) → (a && (b && c)) ≡ true → (a ≡ true) × (b ≡ true) × (c ≡ true)
+three_true a b c h = let two = both_true a (b && c) h in let more = both_true b c two.1 in (two.0, more.0, more.1)
+
+pub four_true : (a b c d : Bool) → (a && (b && (c && d))) ≡ true →
+    (a ≡ true) × (b ≡ true) × (c ≡ true) × (d ≡ true)
+four_true a b c d h =
+    let two = both_true a (b && (c && d)) h in let more = three_true b c d two.1 in (two.0, more.0, more.1, more.2)

@@ -1,11 +1,11 @@
 -- The loops of a body: their counts, and the statements in the innermost, as definitions and as code see them.
-use Rattle.std.proofs.Common.{◌≡◌, ℕ, ◌+◌, List, [], ◌∷◌, true, false, ap, ap₂, ◌∙◌, refl, length, suc, map, zero, ◌<◌}
+use Rattle.std.proofs.Common.{◌≡◌, refl, ap, ℕ, ◌+◌, List, [], ◌∷◌, true, false, ap₂, ◌∙◌, length, suc, map, zero, ◌<◌}
 use Rattle.std.proofs.Common.{Bool, sym, drop, arith, get_or, ◌≢◌, Vec, Global, ◌≤◌}
-use Rattle.std.specs.Prelude.{◌*◌, ◌&&◌, nat_le, Option, Some, None, if◌then◌else◌}
-use Rattle.icode.specs.Plain.{PlainParts, PlainBody, Loop, Do, NoStmts, AndStmts, PlainStmt, body_of, plain_op}
+use Rattle.icode.specs.Plain.{PlainBody, Loop, Do, NoStmts, AndStmts, PlainParts, PlainStmt, body_of, plain_op}
 use Rattle.icode.specs.Plain.{plain_stmt, plain_body}
-use Rattle.fast_loops.specs.Interchange.{Nest, counts_in, round_in, looped, within, sunk, ordered, interchanged_nest}
+use Rattle.fast_loops.specs.Interchange.{counts_in, round_in, looped, Nest, within, sunk, ordered, interchanged_nest}
 use Rattle.fast_loops.specs.Interchange.{interchanged_body, nest_stmt}
+use Rattle.std.specs.Prelude.{◌*◌, ◌&&◌, nat_le, Option, Some, None, if◌then◌else◌}
 use Rattle.fast_loops.specs.Places.{stride, are_linear, exchanged_round, exchanged_op}
 use Rattle.fast_loops.specs.Rounds.{Stored, first_store, first_load, steps_less, are_nested, last_stride, are_placed}
 use Rattle.fast_loops.specs.Rounds.{are_apart, are_independent, is_fresh, put_after, are_fresh}
@@ -17,12 +17,19 @@ use Rattle.std.proofs.lemmas.List.Elements.{All-get_or}
 use Rattle.std.proofs.lemmas.List.Sums.{AllPass-from_list_all}
 use Rattle.icode.specs.declared.program.Op.{Op}
 use Rattle.icode.specs.declared.program.Stmt.{Stmt}
-use Rattle.icode.specs.declared.program.Stmt.TheVariants as stmts
 use Rattle.icode.proofs.Bools.{both_true}
 use Rattle.icode.proofs.Steps.{drop_item}
 use Rattle.icode.proofs.Views.{plain_stmt-Do, plain_stmt-Loop}
 use Rattle.std.proofs.lemmas.Bool.{le-leb}
-use Rattle.fast_loops.proofs.Looped.{looped_is}
+use Rattle.icode.specs.declared.program.Stmt.TheVariants as stmts
+
+pub looped_is : (body : PlainBody) → looped (counts_in body) (round_in body) ≡ body
+looped_is NoStmts = refl
+looped_is (AndStmts (Do op) rest) = refl
+looped_is (AndStmts (Loop count body) NoStmts) = ap (λ (b : PlainBody). AndStmts (Loop count b) NoStmts) (looped_is body)
+looped_is (AndStmts (Loop count body) (AndStmts stmt rest)) = refl
+
+-- ---- the loops of a body: their counts, and the statements in the innermost, as definitions and as code see them
 
 -- no loop stands around innermost statements
 pub round-inner : (body : PlainBody) → counts_in (round_in body) ≡ []

@@ -13,7 +13,6 @@ pub mod JoinedLoops
 pub mod Law
 pub mod Limited
 pub mod Linear
-pub mod Looped
 pub mod Members
 pub mod Programs
 pub mod Rows

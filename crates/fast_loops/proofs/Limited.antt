@@ -1,4 +1,5 @@
 -- Interchanged loops stand within the limits of programs.
+use Rattle.fast_loops.proofs.Bools.{three_true, both_kept, later_kept, by_test}
 use Rattle.std.proofs.Common.{◌≡◌, ◌≢◌, ℕ, suc, ◌+◌, ◌<◌, ◌≤◌, List, [], ◌∷◌, Bool, true, ap, sym, ap₂, ◌∙◌, arith}
 use Rattle.std.proofs.Common.{refl, ltb-true, lt-ltb, map, length}
 use Rattle.std.specs.Prelude.{◌&&◌, nat_lt, nat_le, max}
@@ -14,9 +15,8 @@ use Rattle.fast_loops.specs.Interchange.{interchanged_nest, interchanged_body}
 use Rattle.fast_loops.specs.Places.{exchanged_first, exchanged_parts, exchanged_place, exchanged_op, exchanged_round}
 use Rattle.fast_loops.specs.Rounds.{first_store, first_load, steps_less, are_independent}
 use Rattle.fast_loops.specs.View.{loops_in, is_shallow, are_shallow}
-use Rattle.fast_loops.proofs.Bools.{both_kept, later_kept, by_test}
 use Rattle.fast_loops.proofs.Linear.{first_cases, parts_cases}
-use Rattle.fast_loops.proofs.Looped.{looped_is}
+use Rattle.fast_loops.proofs.Counts.{looped_is}
 use Rattle.fast_loops.proofs.InPlace.{all-within}
 
 -- ---- parts
@@ -33,9 +33,8 @@ record IsPartWithin (part : PlainPart) (n least : ℕ) (rest : PlainParts) : Typ
 part-within : (part : PlainPart) (n least : ℕ) (rest : PlainParts) →
     are_parts_within (AndParts part rest) n least ≡ true → IsPartWithin part n least rest
 part-within part n least rest h =
-    let two = and_parts (is_part_within part n) _ h in
-    let more = and_parts (nat_le least (rank part)) _ two.1 in
-    record { within = two.0; ranked = leb-true least (rank part) more.0; behind = more.1 }
+    let more = three_true (is_part_within part n) (nat_le least (rank part)) _ h in
+    record { within = more.0; ranked = leb-true least (rank part) more.1; behind = more.2 }
 
 part-is : (part : PlainPart) (n least : ℕ) (rest : PlainParts) → IsPartWithin part n least rest →
     are_parts_within (AndParts part rest) n least ≡ true
@@ -209,9 +208,8 @@ pub record IsLoopWithin (m count depth : ℕ) (body : PlainBody) : Type 0 where
 pub loop-within : (m count depth : ℕ) (body : PlainBody) → is_stmt_within m (Loop count body) depth ≡ true →
     IsLoopWithin m count depth body
 loop-within m count depth body h =
-    let a = and_parts (is_small_positive count) _ h in
-    let b = and_parts (nat_lt depth 64) _ a.1 in
-    record { small = a.0; deep = ltb-true depth 64 b.0; within = b.1 }
+    let b = three_true (is_small_positive count) (nat_lt depth 64) _ h in
+    record { small = b.0; deep = ltb-true depth 64 b.1; within = b.2 }
 
 pub loop-is : (m count depth : ℕ) (body : PlainBody) → IsLoopWithin m count depth body →
     is_stmt_within m (Loop count body) depth ≡ true
@@ -263,17 +261,16 @@ sunk-within : (m n loop outer : ℕ) (counts : List ℕ) (round : PlainBody) →
     IsNestWithin m n (length counts) (sunk loop outer counts round)
 sunk-within m n loop outer [] round deep top small h = record { small = small; many_are = refl; within = h }
 sunk-within m n loop outer (count ∷ counts) round deep top small h =
-    let first = and_parts (is_small_positive outer) _ small in
-    let second = and_parts (is_small_positive count) _ first.1 in
+    let each = three_true (is_small_positive outer) (is_small_positive count) _ small in
     by_test (IsNestWithin m n (suc (length counts))) (steps_less loop (first_load round))
     (within count (sunk (loop + 1) outer counts (exchanged_round loop round)))
     (record { outer = outer; inner = count ∷ counts; round = round })
     (λ less.
     let k =
     sunk-within m n (loop + 1) outer counts (exchanged_round loop round) (omega (arith, deep)) top
-    (and_from (is_small_positive outer) _ first.0 second.1) (round-within m loop n round (omega (arith, deep)) top h) in
+    (and_from (is_small_positive outer) _ each.0 each.2) (round-within m loop n round (omega (arith, deep)) top h) in
     record {
-      small = and_from (is_small_positive count) _ second.0 k.small;
+      small = and_from (is_small_positive count) _ each.1 k.small;
       many_are = ap suc k.many_are;
       within = k.within;
     })

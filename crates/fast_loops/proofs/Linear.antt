@@ -1,4 +1,5 @@
 -- Linear places: their values, and the steps of a round where two loops are interchanged.
+use Rattle.fast_loops.proofs.Bools.{three_true, both_kept}
 use Rattle.std.proofs.Common.{◌≡◌, ◌≢◌, ℕ, zero, suc, ◌+◌, ◌*◌, ◌<◌, ◌≤◌, Bool, true, false, not, cond, ◌&&◌, List, []}
 use Rattle.std.proofs.Common.{◌∷◌, ◌++◌, length, refl, sym, ap, ap₂, ◌∙◌, subst, arith, inl, inr, eq-eqb, ne_eqb}
 use Rattle.std.proofs.Common.{leb-true, le-leb, eqb-true}
@@ -13,7 +14,6 @@ use Rattle.icode.proofs.Bools.{both_true}
 use Rattle.fast_loops.specs.Places.{are_linear, is_linear, stride, same_part, same_parts, exchanged_first}
 use Rattle.fast_loops.specs.Places.{exchanged_parts, exchanged_place, exchanged_op, exchanged_round}
 use Rattle.fast_loops.specs.Rounds.{Stored, same_array, is_placed, are_placed}
-use Rattle.fast_loops.proofs.Bools.{both_kept}
 
 -- ---- the values of two loops one in the other
 
@@ -229,9 +229,8 @@ pub record StoreTold (lanes : ℕ) (to : Stored) (array : Array) (constant : ℕ
 pub store_told : (lanes : ℕ) (to : Stored) (step : ℕ) (array : Array) (constant : ℕ) (parts : PlainParts) (r : ℕ) →
     is_placed lanes to step (Store array (Sum constant parts) r) ≡ true → StoreTold lanes to array constant parts step
 store_told lanes to step array constant parts r h =
-    let two = both_true (same_array array to.array) _ h in
-    let both = both_true (same_parts parts to.parts) (nat_le (constant + lanes) step) two.1 in
-    record { into = two.0; by = parts_equal parts to.parts both.0; low = leb-true (constant + lanes) step both.1 }
+    let both = three_true (same_array array to.array) (same_parts parts to.parts) (nat_le (constant + lanes) step) h in
+    record { into = both.0; by = parts_equal parts to.parts both.1; low = leb-true (constant + lanes) step both.2 }
 
 -- ---- statements whose places are linear
 

@@ -2,7 +2,6 @@ pub mod Arrays
 pub mod Choices
 pub mod ColumnsAre
 pub mod Covered
-pub mod Everywhere
 pub mod FrontCovered
 pub mod FrontHeld
 pub mod Law

@@ -13,7 +13,7 @@ use Rattle.fast_loops.specs.Rounds.{are_nested, last_stride}
 use Rattle.fast_loops.specs.Interchange.{Nest, counts_in, round_in, looped, nest_stmt, within, sunk, ordered}
 use Rattle.fast_loops.specs.Interchange.{interchanged_nest, interchanged_body, is_nest, are_nests, interchanged}
 use Rattle.fast_loops.proofs.Bools.{by_test}
-use Rattle.fast_loops.proofs.Looped.{looped_is}
+use Rattle.fast_loops.proofs.Counts.{looped_is}
 use Rattle.std.specs.Prelude.{slice_index_or}
 use Rattle.std.specs.List.{range_with_len, list_all}
 use Rattle.std.proofs.Math.Path.{fun_ext}

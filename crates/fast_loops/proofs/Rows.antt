@@ -1,4 +1,5 @@
 -- The steps of rounds in loops, one in the other: whole loops of rounds that are apart from others may come before or after them.
+use Rattle.fast_loops.proofs.Bools.{three_true}
 use Rattle.std.proofs.Common.{◌≡◌, ℕ, ◌+◌, ◌<◌, true, ◌&&◌, List, refl, ap, ap₂, ◌∙◌, subst, eqb-true, ltb-true}
 use Rattle.std.proofs.Common.{leb-true, ◌≤◌, [], ◌∷◌, ◌++◌, Contains, flat_map, sym, All, length, arith, append-nil}
 use Rattle.std.proofs.Common.{append_assoc, length-append}
@@ -32,9 +33,8 @@ one-source r next x h = let two = both_true (r == next) (nat_lt x next) h in (eq
 pub two-sources : (r next x y : ℕ) → ((r == next) && (nat_lt x next && nat_lt y next)) ≡ true →
     (r ≡ next) × (x < next) × (y < next)
 two-sources r next x y h =
-    let two = both_true (r == next) (nat_lt x next && nat_lt y next) h in
-    let both = both_true (nat_lt x next) (nat_lt y next) two.1 in
-    (eqb-true r next two.0, ltb-true x next both.0, ltb-true y next both.1)
+    let both = three_true (r == next) (nat_lt x next) (nat_lt y next) h in
+    (eqb-true r next both.0, ltb-true x next both.1, ltb-true y next both.2)
 
 fresh-op : (p : PlainProgram) (next : ℕ) (op : PlainOp) (vs : List ℕ) (q : ℕ) → is_fresh p.lanes next op ≡ true →
     IsFresh p.lanes next (step_of p op vs q).action

@@ -1,7 +1,6 @@
 pub mod Cutting
 pub mod Law
 pub mod Listed
-pub mod Placed
 pub mod Products
 pub mod Programs
 pub mod Pushed

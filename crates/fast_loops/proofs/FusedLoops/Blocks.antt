@@ -27,7 +27,7 @@ use Rattle.fast_loops.specs.Interchange.{counts_in, round_in}
 use Rattle.fast_loops.specs.Rounds.{are_fresh, put_after}
 use Rattle.fast_loops.proofs.Acts.{loaded_words}
 use Rattle.fast_loops.proofs.Rows.{in-loop, StepsFit, all_fit, acts_of, in_rows}
-use Rattle.fast_loops.proofs.Looped.{looped_is}
+use Rattle.fast_loops.proofs.Counts.{looped_is}
 use Rattle.fast_loops.proofs.Apart.{in_both, in_more}
 use Rattle.fast_loops.proofs.FusedLoops.Within.{Lies, IsInside}
 use Rattle.fast_loops.proofs.Members.{range_item}

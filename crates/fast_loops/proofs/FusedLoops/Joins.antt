@@ -26,7 +26,7 @@ use Rattle.fast_loops.proofs.Bools.{by_test}
 use Rattle.fast_loops.proofs.Rows.{actions_of-append, actions_of-loop, in-loop, of-loop, for-trans, For, acts_of, rows}
 use Rattle.fast_loops.proofs.Rows.{round_acts, loops_for, past_rows, rows_sure}
 use Rattle.fast_loops.proofs.Swaps.{IsSure, Commute, parted, same-append}
-use Rattle.fast_loops.proofs.Looped.{looped_is}
+use Rattle.fast_loops.proofs.Counts.{looped_is}
 use Rattle.fast_loops.proofs.Members.{append_within}
 use Rattle.fast_loops.proofs.FusedLoops.Blocks.{AreRoundsInside, HasBlocks}
 use Rattle.fast_loops.proofs.FusedLoops.Steps.{EndsIn, ends-put, ends-changed, put-all, parted_last}

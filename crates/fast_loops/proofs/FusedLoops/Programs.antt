@@ -1,4 +1,5 @@
 -- A program whose nests are fused is within the limits of programs, and leaves what it left.
+use Rattle.fast_loops.proofs.Bools.{three_true, both_kept, later_kept, by_test}
 use Rattle.std.proofs.Common.{◌≡◌, ℕ, zero, suc, ◌+◌, List, [], ◌∷◌, true, refl, ◌<◌, ◌&&◌, ◌++◌, Contains, map, length}
 use Rattle.std.proofs.Common.{sym, ap, ◌∙◌, subst, arith, append-nil, append_assoc, eqb-true}
 use Rattle.std.specs.Prelude.{nat_lt, ◌==◌, nat_le, slice_index_or}
@@ -10,7 +11,6 @@ use Rattle.fast_loops.specs.declared.fused_loops.blocks.Block.{Block}
 use Rattle.fast_loops.specs.FusedLoops.Blocks.{blocks_of, shared, first_steps, followed_in}
 use Rattle.fast_loops.specs.FusedLoops.FusedLoops.{put_behind, with_body, in_last, joined, all_joined, waiting}
 use Rattle.fast_loops.specs.FusedLoops.FusedLoops.{fused_onto, fused_phases, fused_phase, may_be_fused, fused}
-use Rattle.fast_loops.proofs.Bools.{both_kept, later_kept, by_test}
 use Rattle.std.proofs.lemmas.List.{length-map}
 use Rattle.std.proofs.lemmas.List.Elements.{All-contains, Contains-append_left, Contains-append_right}
 use Rattle.icode.specs.Actions.{Step, StepFits, PlainFits, actions_of, plain_code, steps_of_stmt, steps_of_body}
@@ -62,9 +62,8 @@ module _ (m : ℕ) where
     joined-within zero stmt made depth h k = put-within stmt made depth h k
     joined-within (suc n) (Do op) made depth h k = put-within (Do op) made depth h k
     joined-within (suc n) (Loop count inside) made depth h k =
-        let two = both_true (is_small_positive count) _ h in
-        let more = both_true (nat_lt depth 64) (is_body_within m inside (depth + 1)) two.1 in
-        last-within (all_joined n inside) depth (λ body low. all-joined-within n inside body (depth + 1) more.1 low) made k
+        let more = three_true (is_small_positive count) (nat_lt depth 64) (is_body_within m inside (depth + 1)) h in
+        last-within (all_joined n inside) depth (λ body low. all-joined-within n inside body (depth + 1) more.2 low) made k
 
     all-joined-within : (n : ℕ) (body made : PlainBody) (depth : ℕ) → is_body_within m body depth ≡ true →
         is_body_within m made depth ≡ true →

@@ -1,4 +1,5 @@
 -- A program on lanes stands within the limits of programs.
+use Rattle.fast_loops.proofs.Bools.{three_true, both_kept, later_kept}
 use Rattle.std.proofs.Common.{◌≡◌, ℕ, suc, ◌+◌, ◌*◌, ◌^◌, ◌<◌, ◌≤◌, true, not, refl, sym, ap, ap₂, ◌∙◌, arith, eqb-true}
 use Rattle.std.proofs.Common.{ltb-true, lt-ltb, leb-true, mul-le-mul_left, zero, ◌/◌, ◌%◌, List, [], ◌∷◌, All, Contains}
 use Rattle.std.proofs.Common.{Option, Some, None, map, drop, length, ⊎_elim}
@@ -12,7 +13,6 @@ use Rattle.icode.specs.Plain.{Neg, MulConst, MulTable, Tile, PlainStmt, PlainBod
 use Rattle.icode.proofs.Bools.{both_true}
 use Rattle.fast_loops.specs.Places.{is_linear, stride}
 use Rattle.fast_loops.specs.Rounds.{Stored, same_array, are_fresh, first_store}
-use Rattle.fast_loops.proofs.Bools.{both_kept, later_kept}
 use Rattle.fast_loops.proofs.Linear.{wrong, chosen, passed, by_equal, parts_equal}
 use Rattle.fast_loops.specs.LoopLanes.Rounds.{is_store, widened_parts, widened, place_stride, is_by_lane, in_row}
 use Rattle.fast_loops.specs.LoopLanes.Rounds.{straight, ops_in, stores}
@@ -22,14 +22,14 @@ use Rattle.std.specs.List.{list_all}
 use Rattle.std.proofs.Math.Nat.{div-add-mod, div-mul-le_self}
 use Rattle.std.proofs.lemmas.List.Elements.{All-nil, All-cons, All-head, All-tail, All-append, All-drop, All-contains}
 use Rattle.fast_loops.specs.Interchange.{counts_in, round_in, looped}
-use Rattle.fast_loops.proofs.Looped.{looped_is}
+use Rattle.fast_loops.proofs.Counts.{looped_is}
 use Rattle.fast_loops.proofs.Members.{all_of_members}
 use Rattle.fast_loops.proofs.InPlace.{all-within}
 use Rattle.fast_loops.specs.LoopLanes.Loads.{Loaded, behind, load_tiles}
 use Rattle.fast_loops.specs.LoopLanes.Lanes.{IsLanes, can_lane, laned_ops, laned_round, last_count, is_lanable}
 use Rattle.fast_loops.specs.LoopLanes.Lanes.{are_lanable, narrowed, laned_nest, laned_body}
 use Rattle.fast_loops.proofs.LoopLanes.Arrays.{step_before}
-use Rattle.fast_loops.proofs.LoopLanes.Everywhere.{all_lanes, all_rows, all_loads, all_columns}
+use Rattle.fast_loops.proofs.LoopLanes.RoundsAre.{all_lanes, all_rows, all_loads, all_columns}
 use Rattle.fast_loops.proofs.LoopLanes.LoadsTold.{IsRow, of_good_kinds, loads_each, IsOther, stored_each, AreGood}
 use Rattle.fast_loops.proofs.LoopLanes.LoadsTold.{AreMultiplied}
 use Rattle.fast_loops.proofs.LoopLanes.Nests.{straight-is}
@@ -389,11 +389,10 @@ nest-within m v regs (Loop count body) lanes few h within =
     let counts : List ℕ = counts_in body in
     let round : PlainBody = round_in body in
     let short = both_true (nat_le (length (stores (ops_in round))) 256) _ h in
-    let tests = both_true (last_count count counts % v == 0) _ short.1 in
-    let more = both_true (are_fresh 1 0 round) _ tests.1 in
+    let more = three_true (last_count count counts % v == 0) (are_fresh 1 0 round) _ short.1 in
     narrowed-within m v (0 + 1 + length counts) count counts 0 round
-    (laned_round v regs (length counts) round) lanes.some tests.0 refl
-    (round-within m v (length counts) (0 + 1 + length counts) regs round lanes few more.0 more.1)
+    (laned_round v regs (length counts) round) lanes.some more.0 refl
+    (round-within m v (length counts) (0 + 1 + length counts) regs round lanes few more.1 more.2)
     (ap (λ inside. is_stmt_within m (Loop count inside) 0) (looped_is body) ∙ within)
 
 pub body-within : (m v regs : ℕ) (body : PlainBody) → AreSome v → 3 * regs < 2 ^ 20 → are_lanable v body ≡ true →

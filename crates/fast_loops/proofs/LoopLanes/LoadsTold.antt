@@ -1,4 +1,5 @@
 -- What the tests of columns and of loads tell of a round that can be laned.
+use Rattle.fast_loops.proofs.Bools.{three_true}
 use Rattle.std.proofs.Common.{◌≡◌, ℕ, suc, ◌+◌, ◌<◌, ◌≤◌, true, false, not, ◌&&◌, List, [], ◌∷◌, All, Contains, length}
 use Rattle.std.proofs.Common.{refl, ap, ap₂, ◌∙◌, subst, arith, inl, inr, eqb-true, ◌*◌, Option, Some, None, Bool, map}
 use Rattle.std.proofs.Common.{zero, ◌/◌, ◌%◌, ◌++◌, drop, sym, ltb-true, length-append}
@@ -393,9 +394,8 @@ pub of_good_kinds : (P : List PlainOp → Type 0) (v n loop : ℕ) (to : Stored)
 of_good_kinds P v n loop to ops can rows columns loaded_rows loaded =
     of_kinds P v n loop to ops can
     (λ h.
-    let two = both_true (stride loop to.parts == 1) _ h in
-    let more = both_true (list_all (is_by_lane loop to) ops) _ two.1 in
-    rows (eqb-true (stride loop to.parts) 1 two.0) more.0 more.1)
+    let more = three_true (stride loop to.parts == 1) (list_all (is_by_lane loop to) ops) _ h in
+    rows (eqb-true (stride loop to.parts) 1 more.0) more.1 more.2)
     (λ h. columns (plain_columns ops) (plain_good v loop to ops h))
     (λ h. columns (factored_columns ops) (factored_good v loop to ops h))
     (λ h. of_loaded_rows P v n loop to ops h loaded_rows)

@@ -1,4 +1,5 @@
 -- Loops, one in the other, of which the innermost goes v rounds at a time, bodies of phases, and programs.
+use Rattle.fast_loops.proofs.Bools.{three_true}
 use Rattle.std.proofs.Common.{◌≡◌, ℕ, zero, suc, ◌+◌, ◌*◌, ◌<◌, ◌≤◌, List, [], ◌++◌, Contains, flat_map, length, refl}
 use Rattle.std.proofs.Common.{sym, ap, ◌∙◌, subst, arith, ⊎_elim, length-append, ◌∷◌, true, Option, Some, None}
 use Rattle.std.proofs.Common.{eqb-true, ◌^◌, map}
@@ -27,7 +28,7 @@ use Rattle.fast_loops.specs.Rounds.{Stored, put_after, are_fresh, first_store}
 use Rattle.fast_loops.specs.Interchange.{counts_in, round_in, looped}
 use Rattle.fast_loops.proofs.Grouped.{in_groups}
 use Rattle.fast_loops.proofs.Linear.{wrong}
-use Rattle.fast_loops.proofs.Looped.{looped_is}
+use Rattle.fast_loops.proofs.Counts.{looped_is}
 use Rattle.fast_loops.specs.LoopLanes.Rounds.{straight, ops_in, stores}
 use Rattle.fast_loops.specs.LoopLanes.Lanes.{IsLanes, can_lane, laned_ops, laned_round, last_count, is_lanable}
 use Rattle.fast_loops.specs.LoopLanes.Lanes.{are_lanable, narrowed, laned_nest, laned_body, can_be_laned, laned}
@@ -236,12 +237,11 @@ module _ (rounds_are : RoundsAreLanes) (v : ℕ) (p : PlainProgram) (q : ℕ) (i
       let counts : List ℕ = counts_in body in
       let round : PlainBody = round_in body in
       let short = both_true (nat_le (length (stores (ops_in round))) 256) _ h in
-      let tests = both_true (last_count count counts % v == 0) _ short.1 in
-      let more = both_true (are_fresh 1 0 round) _ tests.1 in
+      let more = three_true (last_count count counts % v == 0) (are_fresh 1 0 round) _ short.1 in
       let old : steps_of_stmt p (Loop count (looped counts round)) [] q ≡ steps_of_stmt p (Loop count body) [] q =
       ap (λ inside. steps_of_stmt p (Loop count inside) [] q) (looped_is body) in
       subst (AreLanesFor v p (steps_of_stmt (on_lanes v p) (laned_nest v p.regs (Loop count body)) [] q)) old
-      (narrowed_for (length counts) count counts round [] (omega arith) more.1 more.0 tests.0
+      (narrowed_for (length counts) count counts round [] (omega arith) more.2 more.1 more.0
       (subst (StepsFit p) (sym old) fit))
 
   -- ---- bodies of phases
@@ -322,9 +322,8 @@ module _ (rounds_are : RoundsAreLanes) (v : ℕ) (p : PlainProgram) (is_lanes : 
   pub laned_program : IsInPlaceOf (laned v p) p
   laned_program =
       where-true p fits apart there (can_be_laned v p) (λ can.
-      let tests = both_true (p.lanes == 1) _ can in
-      let more = both_true (nat_lt (3 * p.regs) (2 ^ 20)) _ tests.1 in
-      in_place (eqb-true p.lanes 1 tests.0) more.1)
+      let more = three_true (p.lanes == 1) (nat_lt (3 * p.regs) (2 ^ 20)) _ can in
+      in_place (eqb-true p.lanes 1 more.0) more.2)
 
 -- ---- the law, from what is known of rounds
 

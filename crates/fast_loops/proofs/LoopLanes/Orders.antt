@@ -1,4 +1,5 @@
 -- Operations of a round in the order of the text, and in others: those that put, and those that store.
+use Rattle.fast_loops.proofs.Bools.{four_true, three_true, later_kept, by_test}
 use Rattle.std.proofs.Common.{◌≡◌, ℕ, ◌+◌, ◌*◌, ◌<◌, ◌≤◌, true, false, List, [], ◌∷◌, ◌++◌, All, Contains, flat_map}
 use Rattle.std.proofs.Common.{length, refl, ap, ◌∙◌, arith, inl, inr, eqb-true, length-append, zero, suc, Bool, not}
 use Rattle.std.proofs.Common.{take, ltb-true, ◌&&◌, map, ap₂, append-nil, drop, sym, subst, leb-true, take-append-drop}
@@ -22,7 +23,6 @@ use Rattle.fast_loops.specs.LoopLanes.Layers.{steps_at, group_at, values_put, wr
 use Rattle.fast_loops.specs.LoopLanes.Rounds.{is_store, straight, stores, others, stored_registers, are_from}
 use Rattle.fast_loops.specs.LoopLanes.Rounds.{is_by_lane, stored_constants}
 use Rattle.std.proofs.lemmas.List.Sums.{AllPass-from_list_all, list_all-from_AllPass}
-use Rattle.fast_loops.proofs.Bools.{later_kept, by_test}
 use Rattle.std.proofs.Math.Seq.{get_or-append_seam}
 use Rattle.ring_mod.specs.Residue.{product_mod}
 use Rattle.icode.specs.Expression.{sum_numbers}
@@ -253,17 +253,16 @@ module _ (p : PlainProgram) (us : List ℕ) (q : ℕ) where
       (record { memory = memory; registers = xs })
       ≡ product_mod p.modulus (slice_index xs x) (entry_at by k) ∷ []
   product-put by k memory xs r x table constant step parts alone h =
-      let two = both_true (table == by.table) _ h in
-      let three = both_true (constant == by.constant + k) _ two.1 in
+      let three = three_true (table == by.table) (constant == by.constant + k) _ h in
       let at : ℕ = (sum_numbers (Sum constant parts) us q).value in
       let plain : at + step * 0 ≡ at = omega arith in
       let entries : ℕ → List ℕ = λ t. slice_index_or p.tables t [] in
       let times : ℕ → List ℕ = λ factor. product_mod p.modulus (slice_index xs x) factor ∷ [] in
       one-product p.modulus x p.lanes xs (λ lane. slice_index (entries table) (at + step * lane)) alone
       ∙ ap (λ i. times (slice_index (entries table) i)) plain
-      ∙ ap (λ t. times (slice_index (entries t) at)) (eqb-true table by.table two.0)
+      ∙ ap (λ t. times (slice_index (entries t) at)) (eqb-true table by.table three.0)
       ∙ ap₂ (λ c ps. times (slice_index (entries by.table) (sum_numbers (Sum c ps) us q).value))
-      (eqb-true constant (by.constant + k) three.0) (parts_equal parts by.parts three.1)
+      (eqb-true constant (by.constant + k) three.1) (parts_equal parts by.parts three.2)
 
   -- products of registers that were put before
   pub products_put : (by : Factors) (bound k : ℕ) (ops : List PlainOp) (memory xs : List ℕ) (j : ℕ) → p.lanes ≡ 1 →
@@ -344,11 +343,9 @@ row from k n = map (λ i. Load i from.array (Sum i from.parts)) (range_with_len 
 loaded-is : (from : Loaded) (k : ℕ) (op : PlainOp) → is_loaded from k op ≡ true →
     op ≡ Load k from.array (Sum k from.parts)
 loaded-is from k (Load r array (Sum constant parts)) h =
-    let two = both_true (r == k) _ h in
-    let three = both_true (constant == k) _ two.1 in
-    let four = both_true (same_array array from.array) (same_parts parts from.parts) three.1 in
-    ap₂ (λ i a. Load i a (Sum constant parts)) (eqb-true r k two.0) (array_same array from.array four.0)
-    ∙ ap₂ (λ c ps. Load k from.array (Sum c ps)) (eqb-true constant k three.0) (parts_equal parts from.parts four.1)
+    let four = four_true (r == k) (constant == k) (same_array array from.array) (same_parts parts from.parts) h in
+    ap₂ (λ i a. Load i a (Sum constant parts)) (eqb-true r k four.0) (array_same array from.array four.2)
+    ∙ ap₂ (λ c ps. Load k from.array (Sum c ps)) (eqb-true constant k four.1) (parts_equal parts from.parts four.3)
 loaded-is from k op h = wrong h
 
 row-taken : (from : Loaded) (k : ℕ) (ops : List PlainOp) →

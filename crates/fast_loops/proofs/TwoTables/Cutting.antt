@@ -1,4 +1,5 @@
 -- The entries that factors are made of, in blocks and rows, and tables that are walked over.
+use Rattle.fast_loops.proofs.Bools.{three_true}
 use Rattle.std.proofs.Common.{◌≡◌, ℕ, ◌+◌, ◌*◌, ◌/◌, ◌%◌, ◌<◌, ◌≤◌, sym, ap, ◌∙◌, arith, mul_comm, mul-le-mul_left}
 use Rattle.std.proofs.Common.{zero, suc, true, List, [], ◌∷◌, length, eqb-true, ltb-true, ⊎_elim, ◌-◌, ◌&&◌, Bool}
 use Rattle.std.proofs.Common.{false, ◌++◌, Vec, Global, drop, ap₂, add-one, drop-cons}
@@ -102,14 +103,13 @@ pub record AreFactors (m : ℕ) (cut : Cut) (first second entries : List ℕ) : 
 pub walked : (m : ℕ) (cut : Cut) (first second entries : List ℕ) → are_factors m cut first second entries ≡ true →
     AreFactors m cut first second entries
 walked m cut first second entries h =
-    let two = both_true (is_table m first) _ h in
-    let more = both_true (is_table m second) _ two.1 in
+    let more = three_true (is_table m first) (is_table m second) _ h in
     record {
-      some = some_residue m first two.0;
-      first_small = two.0;
-      second_small = more.0;
+      some = some_residue m first more.0;
+      first_small = more.0;
+      second_small = more.1;
       each = λ e lt.
-          let here = of_range (is_product_at m cut first second entries) 0 (length entries) e more.1 (omega arith) (omega arith) in
+          let here = of_range (is_product_at m cut first second entries) 0 (length entries) e more.2 (omega arith) (omega arith) in
           let a = both_true (nat_lt (first_place cut e) (length first)) _ here in
           let b = both_true (nat_lt (second_place cut e) (length second)) _ a.1 in
           record {

@@ -1,4 +1,5 @@
 -- A product by an entry of the table, the two products that it becomes, and statements of such products.
+use Rattle.fast_loops.proofs.Bools.{four_true, three_true}
 use Rattle.std.proofs.Common.{◌≡◌, ℕ, ◌+◌, ◌*◌, ◌<◌, ◌≤◌, List, [], ◌++◌, All, flat_map, length, refl, sym, ap, ap₂}
 use Rattle.std.proofs.Common.{◌∙◌, subst, arith, length-append, ◌≢◌, zero, suc, ◌-◌, ◌/◌, ◌%◌, ◌^◌, true, ◌∷◌}
 use Rattle.std.proofs.Common.{replicate, eqb-true, ltb-true, leb-true, mul-le-mul_left, append-nil, append_assoc}
@@ -32,7 +33,7 @@ use Rattle.fast_loops.specs.TwoTables.TwoTables.{is_short, Split, split_at, fact
 use Rattle.fast_loops.specs.TwoTables.TwoTables.{factored_stmt, factored_body, is_op_even, is_stmt_even}
 use Rattle.fast_loops.proofs.TwoTables.Cutting.{IsInBlock, in_block, AreFactors, IsProduct, walked, table_small}
 use Rattle.fast_loops.proofs.TwoTables.Listed.{is-there, all-left, all-right, all-in-loop}
-use Rattle.fast_loops.proofs.TwoTables.Placed.{place_even, first_value, first_peak, second_value, second_peak}
+use Rattle.fast_loops.proofs.TwoTables.Within.{place_even, first_value, first_peak, second_value, second_peak}
 use Rattle.fast_loops.proofs.Linear.{by_equal, chosen}
 use Rattle.icode.specs.declared.action.Action.TheVariants as actions
 
@@ -120,24 +121,20 @@ pub record IsUsable (p : PlainProgram) (table : ℕ) (cut : Cut) : Type 0 where
 pub what_is_usable : (p : PlainProgram) (table : ℕ) (cut : Cut) → is_usable p table cut ≡ true → IsUsable p table cut
 what_is_usable p table cut usable =
     let all = both_true (has_room p) _ usable in
-    let a = both_true (nat_lt 1 p.lanes) _ all.0 in
-    let b = both_true (nat_lt (p.regs + 1) (2 ^ 20)) _ a.1 in
-    let c = both_true (is_small (length p.tables)) _ b.1 in
-    let d = both_true (nat_le p.procs 16) _ c.1 in
-    let e = both_true (nat_le (length p.phases) 64) (list_all is_short p.phases) d.1 in
+    let c = four_true (nat_lt 1 p.lanes) (nat_lt (p.regs + 1) (2 ^ 20)) (is_small (length p.tables)) _ all.0 in
+    let e = three_true (nat_le p.procs 16) (nat_le (length p.phases) 64) (list_all is_short p.phases) c.3 in
     let f = both_true (is_cut p.lanes cut) (list_all (is_body_even p.lanes table) p.phases) all.1 in
-    let g = both_true (is_small_positive cut.width) _ f.0 in
-    let h = both_true (is_small_positive cut.across) _ g.1 in
+    let h = three_true (is_small_positive cut.width) (is_small_positive cut.across) _ f.0 in
     record {
-      lanes = ltb-true 1 p.lanes a.0;
-      regs = ltb-true (p.regs + 1) (2 ^ 20) b.0;
-      tables = c.0;
-      procs = leb-true p.procs 16 d.0;
-      phases = leb-true (length p.phases) 64 e.0;
-      short = e.1;
-      width = g.0;
-      across = h.0;
-      whole = eqb-true (cut.width % p.lanes) 0 h.1;
+      lanes = ltb-true 1 p.lanes c.0;
+      regs = ltb-true (p.regs + 1) (2 ^ 20) c.1;
+      tables = c.2;
+      procs = leb-true p.procs 16 e.0;
+      phases = leb-true (length p.phases) 64 e.1;
+      short = e.2;
+      width = h.0;
+      across = h.1;
+      whole = eqb-true (cut.width % p.lanes) 0 h.2;
       even = f.1;
     }
 
