@@ -23,7 +23,7 @@ use Rattle.icode.proofs.Bools.{both_true}
 use Rattle.fast_loops.proofs.Acts.{AreApart}
 use Rattle.fast_loops.proofs.Swaps.{exchanged_loops}
 use Rattle.fast_loops.proofs.Linear.{wrong, has_linear_places, placed_linear, linear_exchanged, exchanged_steps}
-use Rattle.fast_loops.proofs.Rows.{fresh_exchanged, for-nil, for-append, for-exchange, for-trans, StepsFit, all_fit}
+use Rattle.fast_loops.proofs.Rows.{are-fresh-exchanged, for-nil, for-append, for-exchange, for-trans, StepsFit, all_fit}
 use Rattle.fast_loops.proofs.Rows.{For, acts_of, rows, loops_for, alone_for, rows_itself, in_rows, rows_sure}
 use Rattle.fast_loops.proofs.Rows.{rows_commute}
 use Rattle.fast_loops.proofs.Apart.{apart_rounds, long_range, in_both, in_more, turned, turned_back, turned_in_range}
@@ -155,7 +155,7 @@ module _ (p : PlainProgram) (q : ℕ) where
       (exchanged_round loop round)
   turned_free loop outers outer inner counts round deep free =
       record {
-        fresh = fresh_exchanged p.lanes 0 loop round free.fresh;
+        fresh = are-fresh-exchanged p.lanes 0 loop round ∙ free.fresh;
         linear = linear_exchanged loop round free.linear;
         apart =
             subst (λ n. AllApart p q (outers ++ inner ∷ outer ∷ counts) (exchanged_round n round)) deep

@@ -66,11 +66,6 @@ fresh-from p next (AndStmts (Do op) rest) vs q h =
     )
 fresh-from p next (AndStmts (Loop count body) rest) vs q h = wrong h
 
--- the actions of fresh statements are fresh
-pub fresh_acts : (p : PlainProgram) (body : PlainBody) (vs : List ℕ) (q : ℕ) → are_fresh p.lanes 0 body ≡ true →
-    AreFresh p.lanes 0 (actions_of (steps_of_body p body vs q))
-fresh_acts p body vs q h = fresh-from p 0 body vs q h
-
 -- ---- exchanged rounds
 
 -- the operation puts and reads the registers that it did
@@ -80,7 +75,8 @@ same-registers : (lanes next loop : ℕ) (op : PlainOp) →
 same-registers lanes next loop (Load r array place) = (refl, refl)
 same-registers lanes next loop _ = (refl, refl)
 
-are-fresh-exchanged : (lanes next loop : ℕ) (body : PlainBody) →
+-- an exchanged round reads no register that it has not put
+pub are-fresh-exchanged : (lanes next loop : ℕ) (body : PlainBody) →
     are_fresh lanes next (exchanged_round loop body) ≡ are_fresh lanes next body
 are-fresh-exchanged lanes next loop NoStmts = refl
 are-fresh-exchanged lanes next loop (AndStmts (Do op) rest) =
@@ -89,11 +85,6 @@ are-fresh-exchanged lanes next loop (AndStmts (Do op) rest) =
     (ap (λ n. are_fresh lanes n (exchanged_round loop rest)) (same-registers lanes next loop op).1
     ∙ are-fresh-exchanged lanes (put_after lanes next op) loop rest)
 are-fresh-exchanged lanes next loop (AndStmts (Loop count body) rest) = refl
-
--- an exchanged round reads no register that it has not put
-pub fresh_exchanged : (lanes next loop : ℕ) (body : PlainBody) → are_fresh lanes next body ≡ true →
-    are_fresh lanes next (exchanged_round loop body) ≡ true
-fresh_exchanged lanes next loop body h = are-fresh-exchanged lanes next loop body ∙ h
 
 -- ---- steps in place of others: they leave the same memory, and are some of them
 
@@ -229,7 +220,7 @@ module _ (p : PlainProgram) (q : ℕ) where
 
   pub round_acts : (round : PlainBody) (vs : List ℕ) → are_fresh p.lanes 0 round ≡ true →
       IsRound p.lanes (acts_of round vs)
-  round_acts round vs h = (fresh_acts p round vs q h, wide_acts p 0 round vs q h)
+  round_acts round vs h = (fresh-from p 0 round vs q h, wide_acts p 0 round vs q h)
 
   -- ---- loops do what they did
 

@@ -88,9 +88,6 @@ module _ (lanes next : ℕ) (other : List ℕ) (s t : Local) (same : Agree lanes
   register_alike : (x : ℕ) → x < next → register_of lanes s.registers x ≡ register_of lanes t.registers x
   register_alike = register_agrees lanes next s.registers t.registers same.registers
 
-  tile_alike : (x : ℕ) → x + lanes ≤ next → transposed lanes s.registers x ≡ transposed lanes t.registers x
-  tile_alike = tile_agrees lanes next s.registers t.registers same.registers
-
   load_alike : (address : ℕ) → ((k : ℕ) → Contains (range_with_len address lanes) k → Contains other k → ⊥) →
       words_at lanes s.memory address ≡ words_at lanes t.memory address
   load_alike address apart =
@@ -172,7 +169,8 @@ module _ (lanes next : ℕ) (other : List ℕ) (s t : Local) (same : Agree lanes
       put_alike m (next + 1) (Mul r x factors) fresh.0 refl refl (ap (λ ws. lane_by_lane (product_mod m) ws factors) (register_alike x fresh.1)) (omega arith)
   act_alike m (Tile r x) fresh wide apart =
       let size = length-transposed lanes s.registers x in
-      put_alike m (next + lanes) (Tile r x) fresh.0 refl refl (tile_alike x fresh.1) (omega arith)
+      put_alike m (next + lanes) (Tile r x) fresh.0 refl refl
+      (tile_agrees lanes next s.registers t.registers same.registers x fresh.1) (omega arith)
 
 -- a list of actions
 pub acts_alike : (m lanes next : ℕ) (other : List ℕ) (fs : List Action) (s t : Local) → AreFresh lanes next fs →

@@ -121,9 +121,9 @@ op-front lanes counts xs ys (Load r array place) h k = place-front lanes counts 
 op-front lanes counts xs ys (Store array place r) h k = place-front lanes counts xs ys place h k
 op-front lanes counts xs ys _ h k = tt
 
-record KeepsFor (Follows : List ℕ → Type 0) (steps kept : List ℕ) : Type 0 where
-  front : IsFront kept steps
-  all : Follows kept
+pub record KeepsFor (Follows : List ℕ → Type 0) (steps kept : List ℕ) : Type 0 where
+  pub front : IsFront kept steps
+  pub all : Follows kept
 
 as-place : (lanes : ℕ) (counts : List ℕ) (constant : ℕ) (parts : PlainParts) (kept : List ℕ) → are_values parts ≡ true →
     AreFollowed counts (constant + lanes) 0 kept parts → PlaceFollows lanes counts kept (Sum constant parts)
@@ -147,7 +147,7 @@ op-keeps lanes counts (Store array place r) steps =
     let k = place-keeps lanes counts place steps in record { front = k.front; all = k.all }
 op-keeps lanes counts _ steps = record { front = front-itself steps; all = tt }
 
-round-keeps : (lanes : ℕ) (counts : List ℕ) (round : PlainBody) (steps : List ℕ) →
+pub round-keeps : (lanes : ℕ) (counts : List ℕ) (round : PlainBody) (steps : List ℕ) →
     KeepsFor (λ kept. RoundFollows lanes counts kept round) steps (followed_in lanes counts round steps)
 round-keeps lanes counts NoStmts steps = record { front = front-itself steps; all = tt }
 round-keeps lanes counts (AndStmts (Do op) rest) steps =
@@ -160,11 +160,6 @@ round-keeps lanes counts (AndStmts (Do op) rest) steps =
     }
 round-keeps lanes counts (AndStmts (Loop count body) rest) steps =
     let more = round-keeps lanes counts rest steps in record { front = more.front; all = more.all }
-
--- all places of a round go the steps that are kept for it
-pub round-follows : (lanes : ℕ) (counts : List ℕ) (round : PlainBody) (steps : List ℕ) →
-    RoundFollows lanes counts (followed_in lanes counts round steps) round
-round-follows lanes counts round steps = (round-keeps lanes counts round steps).all
 
 pub round-front : (lanes : ℕ) (counts xs ys : List ℕ) (round : PlainBody) → IsFront xs ys →
     RoundFollows lanes counts ys round → RoundFollows lanes counts xs round

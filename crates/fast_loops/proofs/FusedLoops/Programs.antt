@@ -25,7 +25,7 @@ use Rattle.fast_loops.proofs.InPlace.{of-members, no-more, in-place, itself, whe
 use Rattle.fast_loops.proofs.InPlace.{listed}
 use Rattle.fast_loops.proofs.Linear.{wrong}
 use Rattle.fast_loops.proofs.Rows.{StepsFit}
-use Rattle.fast_loops.proofs.FusedLoops.Blocks.{has-blocks, round-follows}
+use Rattle.fast_loops.proofs.FusedLoops.Blocks.{has-blocks, round-keeps}
 use Rattle.fast_loops.proofs.FusedLoops.Joins.{LeavesFor, Ends, body-sure, grows, leaves-behind, leaves-itself}
 use Rattle.fast_loops.proofs.FusedLoops.Joins.{leaves-trans, sure-append}
 use Rattle.fast_loops.proofs.FusedLoops.Steps.{put-steps}
@@ -129,7 +129,7 @@ module _ (p : PlainProgram) (q : ℕ) where
       fit s (Contains-append_left first (steps rest) s (subst (λ xs. Contains xs s) (append-nil first) has)) in
       let grown = grows p q alone before blocks made [] 0 two.0 ends
       (has-blocks p q counts kept alone [] [] [] kept refl refl tt refl two.0
-      (round-follows p.lanes counts round (first_steps (first_load round))) fit_alone) in
+      (round-keeps p.lanes counts round (first_steps (first_load round))).all fit_alone) in
       let more : PlainBody = joined (shared before blocks) stmt made in
       leaves-trans p q (steps (fused_onto p.lanes 0 blocks more rest)) (steps more ++ steps rest)
       (steps made ++ (first ++ steps rest))
@@ -153,10 +153,6 @@ module _ (p : PlainProgram) (q : ℕ) where
       (ap (λ xs. xs ++ steps rest) (put-steps p q stmt made []) ∙ append_assoc (steps made) first (steps rest))
       (waiting-onto rest (put_behind stmt made) (λ s has. fit s (Contains-append_right first (steps rest) s has))))
 
-  fused-for : (body : PlainBody) → StepsFit p (steps body) →
-      LeavesFor p q (steps (fused_phase p.lanes body)) (steps body)
-  fused-for body fit = waiting-onto body NoStmts fit
-
 -- ---- one phase of one processor
 
 -- the memory that such a code leaves
@@ -175,7 +171,7 @@ module _ (p : PlainProgram) (fits : PlainFits p) (apart : (phase : ℕ) → IsAp
   phase-for phase q lt =
       subst (λ xs. LeavesFor p q xs (steps_of_phase p phase q))
       (sym (phase-is (fused_phase p.lanes) refl p.phases p phase q))
-      (fused-for p q (slice_index_or p.phases phase NoStmts)
+      (waiting-onto p q (slice_index_or p.phases phase NoStmts) NoStmts
       (λ s has. All-contains (StepFits p) (steps_of_phase p phase q) s (fits.each phase q lt) has))
 
   module _ (one : p.procs ≡ 1) (phase : length p.phases ≡ 1) where

@@ -161,14 +161,10 @@ waits-other lanes stmt rest count index other =
     (index + 1 + waiting lanes rest) (λ e. let none = waiting-nests lanes rest e in omega (arith, none))
     (λ e. omega arith)
 
-next-stmt : (items : List Stmt) (index : ℕ) (stmt : Stmt) → index < length items → stmt ≡ get_or items index stmt →
-    plain_body (drop index items) ≡ AndStmts (plain_stmt stmt) (plain_body (drop (index + 1) items))
-next-stmt items index stmt lt e = ap plain_body (drop_item items index stmt lt e)
-
 module _ (lanes : ℕ) (items : List Stmt) (stmt : Stmt) (index count whole : ℕ) (lt : index < length items) (at : stmt ≡ get_or items index stmt)
     (so_far : whole ≡ waits lanes (plain_body (drop index items)) count index) where
   now : whole ≡ waits lanes (AndStmts (plain_stmt stmt) (plain_body (drop (index + 1) items))) count index
-  now = so_far ∙ ap (λ body. waits lanes body count index) (next-stmt items index stmt lt at)
+  now = so_far ∙ ap (λ body. waits lanes body count index) (ap plain_body (drop_item items index stmt lt at))
 
   -- a nest more has been seen, or another statement
   pub after-nest : is_nest lanes (plain_stmt stmt) ≡ true → whole

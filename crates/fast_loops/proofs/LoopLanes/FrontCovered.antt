@@ -36,10 +36,6 @@ factor_fits m lanes g alone all =
 
 -- ---- words one after the other
 
--- the word alone
-one_word : (a k : ℕ) → k ≡ a → Contains (range_with_len a 1) k
-one_word a k e = Contains-range 1 a k (omega (arith, e)) (omega (arith, e))
-
 -- what holds of the word of each lane holds of the words from the first on
 pub words_of_lanes : (P : ℕ → Type 0) (v first : ℕ) (at : ℕ → ℕ) → ((l : ℕ) → at l ≡ first + l) →
     ((l : ℕ) → l < v → (k : ℕ) → Contains (range_with_len (at l) 1) k → P k) →
@@ -48,7 +44,8 @@ words_of_lanes P v first at is each k h =
     let within = range_item first v k h in
     let from = within.0 in
     let l : ℕ = k - first in
-    each l (omega (arith, within.1, from)) k (one_word (at l) k (omega (arith, from, is l)))
+    let e : k ≡ at l = omega (arith, from, is l) in
+    each l (omega (arith, within.1, from)) k (Contains-range 1 (at l) k (omega (arith, e)) (omega (arith, e)))
 
 -- ---- what the rounds do
 
