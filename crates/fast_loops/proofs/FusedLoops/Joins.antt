@@ -98,11 +98,6 @@ module _ (p : PlainProgram) (q : ℕ) where
         members = append_within xs ys zs zs h.members (λ s has. has);
       }
 
-  -- whatever stands in the registers
-  from-sure : (xs ys : List Step) → LeavesFor xs ys → Sure ys → For p q xs ys
-  from-sure xs ys h sure =
-      record { same = λ r s memory long. h.same r memory ∙ sure r s memory long; members = h.members }
-
   pub sure-append : (xs ys : List Step) → Sure xs → Sure ys → Sure (xs ++ ys)
   sure-append xs ys one other =
       subst (λ fs. IsSure p.modulus p.lanes fs) (sym (actions_of-append xs ys))
@@ -256,8 +251,9 @@ module _ (p : PlainProgram) (q : ℕ) where
 
     each : (i : ℕ) → i < block.count → For p q (new i) (old i ++ added i)
     each i lt =
-        from-sure (new i) (old i ++ added i) (grown i lt).leaves
-        (sure-append (old i) (added i) (end.2 i lt).0.sure (body-sure inner (vs ++ i ∷ []) fresh))
+        let leaves = (grown i lt).leaves in
+        let sure = sure-append (old i) (added i) (end.2 i lt).0.sure (body-sure inner (vs ++ i ∷ []) fresh) in
+        record { same = λ r s memory long. leaves.same r memory ∙ sure r s memory long; members = leaves.members }
 
     abbrev rounds : List ℕ
     rounds = range_with_len 0 block.count

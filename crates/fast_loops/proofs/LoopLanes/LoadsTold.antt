@@ -132,13 +132,6 @@ multiplied-from by bound all k (MulTable r x table (Sum constant parts) step ∷
     ]
 multiplied-from by bound all k (op ∷ ops) has products c low high = wrong products
 
--- products one after the other, each by an entry of its own
-pub multiplied_each : (by : Factors) (bound : ℕ) (ops products : List PlainOp) → All (Contains ops) products →
-    are_products by bound 0 products ≡ true →
-    (c : ℕ) → c < length products → IsMultiplied by ops c
-multiplied_each by bound ops products has h c lt =
-    multiplied-from by bound ops 0 products has h c (omega arith) (omega (arith, lt))
-
 -- as many registers as products
 pub as_many_products : (by : Factors) (bound k : ℕ) (ops : List PlainOp) → are_products by bound k ops ≡ true →
     length (factored_registers ops) ≡ length ops
@@ -178,20 +171,10 @@ multiplied_by v loop ops (Some by) h =
     record {
       linear = told.linear;
       each = λ k lt.
-          multiplied_each by (front_length ops) ops (last_products ops)
-          (All-drop (Contains ops) (front_length ops) (others ops) (members ops)) told.products k
+          multiplied-from by (front_length ops) ops 0 (last_products ops)
+          (All-drop (Contains ops) (front_length ops) (others ops) (members ops)) told.products k (omega arith)
           (omega (arith, many, lt));
       small = told.small;
-    }
-
-pub plain_good : (v loop : ℕ) (to : Stored) (ops : List PlainOp) → are_plain_columns v loop to ops ≡ true →
-    AreGood v loop to ops (plain_columns ops)
-plain_good v loop to ops h =
-    record {
-      columns = columns_told v loop to ops (plain_columns ops) h;
-      front = others_are ops;
-      short = omega arith;
-      factors = tt;
     }
 
 -- the operations before the products
@@ -396,7 +379,14 @@ of_good_kinds P v n loop to ops can rows columns loaded_rows loaded =
     (λ h.
     let more = three_true (stride loop to.parts == 1) (list_all (is_by_lane loop to) ops) _ h in
     rows (eqb-true (stride loop to.parts) 1 more.0) more.1 more.2)
-    (λ h. columns (plain_columns ops) (plain_good v loop to ops h))
+    (λ h.
+    columns (plain_columns ops)
+    (record {
+      columns = columns_told v loop to ops (plain_columns ops) h;
+      front = others_are ops;
+      short = omega arith;
+      factors = tt;
+    }))
     (λ h. columns (factored_columns ops) (factored_good v loop to ops h))
     (λ h. of_loaded_rows P v n loop to ops h loaded_rows)
     (λ h. behind_row (plain_columns ops) h (others_are ops) (omega arith) tt)

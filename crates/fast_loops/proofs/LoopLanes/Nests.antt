@@ -31,7 +31,7 @@ use Rattle.fast_loops.proofs.Linear.{wrong}
 use Rattle.fast_loops.proofs.Counts.{looped_is}
 use Rattle.fast_loops.specs.LoopLanes.Rounds.{straight, ops_in, stores}
 use Rattle.fast_loops.specs.LoopLanes.Lanes.{IsLanes, can_lane, laned_ops, laned_round, last_count, is_lanable}
-use Rattle.fast_loops.specs.LoopLanes.Lanes.{are_lanable, narrowed, laned_nest, laned_body, can_be_laned, laned}
+use Rattle.fast_loops.specs.LoopLanes.Lanes.{are_lanable, narrowed, laned_nest, laned_body, can_be_laned}
 use Rattle.fast_loops.proofs.LoopLanes.Told.{straight_steps}
 use Rattle.std.proofs.lemmas.List.{length-map, length-replicate}
 use Rattle.fast_loops.specs.TwoTables.Laws.{IsInPlaceOf}
@@ -128,17 +128,6 @@ straight-is lanes next (AndStmts (Do op) rest) h =
     ap (AndStmts (Do op)) (straight-is lanes (put_after lanes next op) rest (both_true _ _ h).1)
 straight-is lanes next (AndStmts (Loop count body) rest) h = wrong h
 
--- ---- a loop in groups
-
--- v rounds at a time
-loop-in-groups : {X : Type 0} (f : ℕ → List X) (v count : ℕ) → (count % v == 0) ≡ true →
-    flat_map f (range_with_len 0 count) ≡ flat_map (λ b. flat_map (λ l. f (v * b + l)) (range_with_len 0 v))
-    (range_with_len 0 (count / v))
-loop-in-groups f v count h =
-    let none : count % v ≡ 0 = eqb-true (count % v) 0 h in
-    let whole : v * (count / v) + count % v ≡ count = div-add-mod count v in
-    in_groups f v (count / v) count (omega (arith, none, whole))
-
 module _ (rounds_are : RoundsAreLanes) (v : ℕ) (p : PlainProgram) (q : ℕ) (is_lanes : IsLanes v)
     (alone : p.lanes ≡ 1) where
   -- ---- the innermost loop
@@ -164,7 +153,10 @@ module _ (rounds_are : RoundsAreLanes) (v : ℕ) (p : PlainProgram) (q : ℕ) (i
       group b = group_at v p ops vs b q
 
       grouped : rounds_of ops vs count ≡ flat_map group (range_with_len 0 (count / v))
-      grouped = loop-in-groups (λ i. steps_at p ops (vs ++ i ∷ []) q) v count whole
+      grouped =
+          let none : count % v ≡ 0 = eqb-true (count % v) 0 whole in
+          let all : v * (count / v) + count % v ≡ count = div-add-mod count v in
+          in_groups (λ i. steps_at p ops (vs ++ i ∷ []) q) v (count / v) count (omega (arith, none, all))
 
       known : (b : ℕ) → b < count / v → IsGroup v p to ops vs b q
       known b lt =
@@ -319,15 +311,12 @@ module _ (rounds_are : RoundsAreLanes) (v : ℕ) (p : PlainProgram) (is_lanes : 
         in-place p there apart stand_there (no-more p there fits many (λ phase q lt. (lanes_there phase q lt).few))
         (memory-same p there (λ r s. AreEnough (length r) (length s)) many enough_first keep_there)
 
-  pub laned_program : IsInPlaceOf (laned v p) p
-  laned_program =
-      where-true p fits apart there (can_be_laned v p) (λ can.
-      let more = three_true (p.lanes == 1) (nat_lt (3 * p.regs) (2 ^ 20)) _ can in
-      in_place (eqb-true p.lanes 1 more.0) more.2)
-
 -- ---- the law, from what is known of rounds
 
 pub lanes_follow : LanesFollow
 lanes_follow rounds_are v p is_lanes fits apart =
-    let law = laned_program rounds_are v p is_lanes fits apart in
+    let law =
+    where-true p fits apart (there rounds_are v p is_lanes fits apart) (can_be_laned v p) (λ can.
+    let more = three_true (p.lanes == 1) (nat_lt (3 * p.regs) (2 ^ 20)) _ can in
+    in_place rounds_are v p is_lanes fits apart (eqb-true p.lanes 1 more.0) more.2) in
     record { fits = law.fits; apart = law.apart; same = law.same }
