@@ -1,7 +1,7 @@
 -- Interchanged loops stand within the limits of programs.
 use Rattle.fast_loops.proofs.Bools.{three_true, both_kept, later_kept, by_test}
-use Rattle.std.proofs.Common.{◌≡◌, ◌≢◌, ℕ, suc, ◌+◌, ◌<◌, ◌≤◌, List, [], ◌∷◌, Bool, true, ap, sym, ap₂, ◌∙◌, arith}
-use Rattle.std.proofs.Common.{refl, ltb-true, lt-ltb, map, length}
+use Rattle.std.proofs.Common.{mul-le-mul_left, ◌*◌, ◌≡◌, ◌≢◌, ℕ, suc, ◌+◌, ◌<◌, ◌≤◌, List, [], ◌∷◌, Bool, true, ap, sym}
+use Rattle.std.proofs.Common.{ap₂, ◌∙◌, arith, refl, ltb-true, lt-ltb, map, length}
 use Rattle.std.specs.Prelude.{◌&&◌, nat_lt, nat_le, max}
 use Rattle.std.specs.List.{list_all}
 use Rattle.std.proofs.lemmas.Bool.{leb-true, le-leb, and_parts, and_from}
@@ -23,6 +23,14 @@ use Rattle.fast_loops.proofs.InPlace.{all-within}
 
 pub and_three : (a b c : Bool) → a ≡ true → b ≡ true → c ≡ true → (a && (b && c)) ≡ true
 and_three a b c ea eb ec = and_from a (b && c) ea (and_from b c eb ec)
+
+-- a product of positive numbers
+pub positive-product : (a b : ℕ) → 0 < a → is_small_positive b ≡ true → is_small (a * b) ≡ true →
+    is_small_positive (a * b) ≡ true
+positive-product a b some h small =
+    let low : 0 < b = ltb-true 0 b (and_parts (nat_lt 0 b) (is_small b) h).0 in
+    let more : a * 1 ≤ a * b = mul-le-mul_left a low in
+    and_from (nat_lt 0 (a * b)) (is_small (a * b)) (lt-ltb 0 (a * b) (omega (arith, some, more))) small
 
 -- what is known of a part in front
 record IsPartWithin (part : PlainPart) (n least : ℕ) (rest : PlainParts) : Type 0 where
@@ -69,14 +77,6 @@ one-within depth a n least behind rest deep le ea lower h =
       behind = parts-lower rest n behind (suc (1 + depth)) (omega (arith, lower)) h;
     })
 
--- two of them
-pair-within : (loop a b n least : ℕ) (rest : PlainParts) → loop + 1 < n → least ≤ loop + 1 →
-    is_small_positive a ≡ true → is_small_positive b ≡ true → are_parts_within rest n (loop + 3) ≡ true →
-    are_parts_within (AndParts (Var loop a) (AndParts (Var (loop + 1) b) rest)) n least ≡ true
-pair-within loop a b n least rest deep le ea eb h =
-    one-within loop a n least (loop + 2) (AndParts (Var (loop + 1) b) rest) (omega (arith, deep)) le ea (omega arith)
-    (one-within (loop + 1) b n (loop + 2) (loop + 3) rest deep (omega arith) eb (omega arith) h)
-
 -- what is known of a multiple of a loop's value in front
 pub record IsVarWithin (depth a n least : ℕ) (rest : PlainParts) : Type 0 where
   pub deep : depth < n
@@ -106,8 +106,10 @@ first-within loop factor n least (AndParts (Var depth inner) rest) deep top le s
     let known = var-within depth inner n (loop + 2) rest h in
     first_cases (λ parts. are_parts_within parts n least ≡ true) loop factor depth inner rest
     (λ same.
-    pair-within loop inner factor n least rest deep le known.small small
-    (parts-lower rest n (depth + 2) (loop + 3) (omega (arith, same)) known.behind))
+    one-within loop inner n least (loop + 2) (AndParts (Var (loop + 1) factor) rest) (omega (arith, deep)) le known.small
+    (omega arith)
+    (one-within (loop + 1) factor n (loop + 2) (loop + 3) rest deep (omega arith) small (omega arith)
+    (parts-lower rest n (depth + 2) (loop + 3) (omega (arith, same)) known.behind)))
     (λ other.
     one-within (loop + 1) factor n least (loop + 3) (AndParts (Var depth inner) rest) deep (omega (arith, le)) small
     (omega arith)

@@ -315,11 +315,6 @@ module _ (p : PlainProgram) (q : ℕ) where
           );
         }
 
-  same-block : (b c : Block) → (b.count == c.count) ≡ true → (b.step == c.step) ≡ true → b ≡ c
-  same-block b c one other =
-      let made : ℕ → ℕ → Block = λ n s. record { count = n; step = s } in
-      ap₂ made (eqb-true b.count c.count one) (eqb-true b.step c.step other)
-
   none-shared : (bs : List Block) → shared bs [] ≡ 0
   none-shared [] = refl
   none-shared (b ∷ bs) = refl
@@ -339,8 +334,9 @@ module _ (p : PlainProgram) (q : ℕ) where
       (suc (shared bs cs)) 0
       (λ e.
       let two = both_true (b.count == c.count) (b.step == c.step) e in
-      let end_too : Ends (c ∷ bs) made vs base =
-      subst (λ x. Ends (x ∷ bs) made vs base) (same-block b c two.0 two.1) end in
+      let block : ℕ → ℕ → Block = λ n s. record { count = n; step = s } in
+      let same : b ≡ c = ap₂ block (eqb-true b.count c.count two.0) (eqb-true b.step c.step two.1) in
+      let end_too : Ends (c ∷ bs) made vs base = subst (λ x. Ends (x ∷ bs) made vs base) same end in
       subst (λ n. IsGrown (suc (shared bs cs)) (AndStmts (Loop n inner) NoStmts) (c ∷ cs) made vs base) (sym has.0)
       (into-grown (shared bs cs) c bs cs inner made vs base fresh end_too
       (subst (λ n. HasBlocks p q (c ∷ cs) (AndStmts (Loop n inner) NoStmts) vs base) has.0 has)

@@ -1,7 +1,7 @@
 -- Two loops that are one do the steps that they did, and stand within the limits of programs.
 use Rattle.std.proofs.Common.{◌≡◌, ℕ, ◌+◌, ◌*◌, true, Some, None, List, [], ◌∷◌, ◌++◌, flat_map, length, refl, sym, ap}
 use Rattle.std.proofs.Common.{ap₂, ◌∙◌, arith, append-nil, append_assoc, length-append, ◌⊎◌, inl, inr, ◌<◌, ◌≤◌, subst}
-use Rattle.std.proofs.Common.{ltb-true, lt-ltb, map, mul-le-mul_left}
+use Rattle.std.proofs.Common.{ltb-true, map}
 use Rattle.std.specs.Prelude.{◌%◌, ◌==◌, ◌&&◌, not, nat_lt, nat_le, max}
 use Rattle.std.specs.List.{range_with_len}
 use Rattle.std.specs.Option.{unwrap_or}
@@ -15,12 +15,13 @@ use Rattle.icode.proofs.Bools.{both_true}
 use Rattle.fast_loops.specs.JoinedLoops.JoinedLoops.{op_goes_on, body_goes_on, lifted_op, lifted_body, as_one}
 use Rattle.fast_loops.specs.JoinedLoops.JoinedLoops.{joined_stmt, joined_body, place_goes_on, lifted_parts}
 use Rattle.fast_loops.specs.JoinedLoops.JoinedLoops.{lifted_place}
+use Rattle.fast_loops.proofs.Limited.{positive-product, IsVarWithin, and_three, one-within, var-within, loop-within}
+use Rattle.fast_loops.proofs.Limited.{loop-is, only-within}
 use Rattle.fast_loops.proofs.Bools.{by_test, both_kept, later_kept}
 use Rattle.fast_loops.proofs.Grouped.{in_groups}
 use Rattle.fast_loops.proofs.JoinedLoops.Numbers.{place_same, LiftedVar, lifted_var}
-use Rattle.std.proofs.lemmas.Bool.{leb-true, le-leb, and_parts, and_from}
+use Rattle.std.proofs.lemmas.Bool.{leb-true, le-leb, and_parts}
 use Rattle.fast_loops.specs.Places.{are_linear}
-use Rattle.fast_loops.proofs.Limited.{IsVarWithin, and_three, one-within, var-within, loop-within, loop-is, only-within}
 use Rattle.fast_loops.proofs.Linear.{wrong, from_least, proc_first}
 use Rattle.fast_loops.proofs.InPlace.{all-within}
 
@@ -208,15 +209,6 @@ body-lifted m loop inner n (AndStmts (Loop count body) rest) deep on h = absurd 
 
 -- ---- loops
 
-positive : (a b : ℕ) → is_small_positive a ≡ true → is_small_positive b ≡ true → is_small (a * b) ≡ true →
-    is_small_positive (a * b) ≡ true
-positive a b ha hb small =
-    let some : 0 < a = ltb-true 0 a (and_parts (nat_lt 0 a) _ ha).0 in
-    let more : 0 < b = ltb-true 0 b (and_parts (nat_lt 0 b) _ hb).0 in
-    let one : 1 ≤ b = omega (arith, more) in
-    let most : a * 1 ≤ a * b = mul-le-mul_left a one in
-    and_from (nat_lt 0 (a * b)) _ (lt-ltb 0 (a * b) (omega (arith, some, most))) small
-
 one-is : (m loop count : ℕ) (body : PlainBody) → is_stmt_within m (Loop count body) loop ≡ true →
     is_stmt_within m (unwrap_or (as_one loop count body) (Loop count body)) loop ≡ true
 one-is m loop count NoStmts h = h
@@ -233,7 +225,9 @@ one-is m loop count (AndStmts (Loop inner body) NoStmts) h =
     let told = and_parts (is_small (count * inner)) _ (and_parts (not (inner % 16 == 0)) _ e).1 in
     loop-is m (count * inner) loop (lifted_body loop body)
     (record {
-      small = positive count inner outer.small inside.small told.0;
+      small =
+          positive-product count inner (ltb-true 0 count (and_parts (nat_lt 0 count) _ outer.small).0) inside.small
+          told.0;
       deep = outer.deep;
       within = body-lifted m loop inner (loop + 1) body (omega arith) told.1 inside.within;
     }))

@@ -13,6 +13,7 @@ use Rattle.icode.specs.Plain.{Neg, MulConst, MulTable, Tile, PlainStmt, PlainBod
 use Rattle.icode.proofs.Bools.{both_true}
 use Rattle.fast_loops.specs.Places.{is_linear, stride}
 use Rattle.fast_loops.specs.Rounds.{Stored, same_array, are_fresh, first_store}
+use Rattle.fast_loops.proofs.Limited.{positive-product}
 use Rattle.fast_loops.proofs.Linear.{wrong, chosen, passed, by_equal, parts_equal}
 use Rattle.fast_loops.specs.LoopLanes.Rounds.{is_store, widened_parts, widened, place_stride, is_by_lane, in_row}
 use Rattle.fast_loops.specs.LoopLanes.Rounds.{straight, ops_in, stores}
@@ -43,13 +44,6 @@ use Rattle.fast_loops.proofs.LoopLanes.Wide.{moved}
 pub small-less : (a c : ℕ) → a ≤ c → is_small c ≡ true → is_small a ≡ true
 small-less a c le h = let bound : c < 2 ^ 32 = ltb-true c (2 ^ 32) h in lt-ltb a (2 ^ 32) (omega (arith, le, bound))
 
-positive-wide : (v factor : ℕ) → 2 ≤ v → is_small_positive factor ≡ true → is_small (v * factor) ≡ true →
-    is_small_positive (v * factor) ≡ true
-positive-wide v factor some h small =
-    let low : 0 < factor = ltb-true 0 factor (and_parts (nat_lt 0 factor) (is_small factor) h).0 in
-    let more : v * 1 ≤ v * factor = mul-le-mul_left v low in
-    and_from (nat_lt 0 (v * factor)) (is_small (v * factor)) (lt-ltb 0 (v * factor) (omega (arith, some, more))) small
-
 module _ (v loop : ℕ) (some : 2 ≤ v) where
   parts-within : (n least : ℕ) (parts : PlainParts) → is_small (v * stride loop parts) ≡ true →
       are_parts_within parts n least ≡ true →
@@ -62,7 +56,7 @@ module _ (v loop : ℕ) (some : 2 ≤ v) where
       (λ same.
       both_kept
       (later_kept (nat_lt depth n) (λ low.
-      positive-wide v factor some low
+      positive-product v factor (omega (arith, some)) low
       (ap (λ s. is_small (v * s)) (sym (chosen depth loop factor (stride loop rest) same)) ∙ small)))
       (λ ranked. ranked) h)
       (λ other.

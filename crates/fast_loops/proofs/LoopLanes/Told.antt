@@ -25,7 +25,7 @@ use Rattle.fast_loops.specs.LoopLanes.Lanes.{can_lane}
 use Rattle.fast_loops.specs.LoopLanes.Loads.{Loaded, behind, are_loaded}
 use Rattle.fast_loops.specs.LoopLanes.Layers.{Write, steps_at, writes_of, GroupsAreSure, round_writes, group_writes}
 use Rattle.fast_loops.specs.LoopLanes.Layers.{memory_by, GroupsWrite}
-use Rattle.fast_loops.proofs.LoopLanes.Arrays.{IsOutside, other_outside, step_before}
+use Rattle.fast_loops.proofs.LoopLanes.Arrays.{other_outside, step_before}
 use Rattle.fast_loops.proofs.LoopLanes.ColumnsAre.{columns_told, by_told, AreTurned}
 use Rattle.fast_loops.proofs.LoopLanes.LoadsTold.{of_kinds, IsRow, of_loaded_rows, of_loaded, of_good_kinds}
 use Rattle.fast_loops.proofs.LoopLanes.Orders.{row, from_at, group_fits}
@@ -146,13 +146,6 @@ told v loop to ops h =
 abbrev pub IsIn : ℕ → Array → ℕ → Type 0
 IsIn words a k = (array_start words a ≤ k) × (k < array_start words a + words)
 
-never-in : (words : ℕ) (array : Array) (k : ℕ) → IsOutside words array k → IsIn words array k → ⊥
-never-in words array k outside inside =
-    ⊎_elim
-    (λ (h : k < array_start words array). omega (arith, h, inside.0))
-    (λ (h : array_start words array + words ≤ k). omega (arith, h, inside.1))
-    outside
-
 -- ---- the actions of a round
 
 -- the words of the array that is stored into
@@ -167,8 +160,10 @@ placed-op p to (Load r array place) ws q alone is fits =
       fits.registers,
       λ into.
           let k : ℕ = array_start words array + (sum_numbers place ws q).value in
-          never-in words to.array k
-          (other_outside words array to.array k is (omega arith) (omega (arith, room, alone))) into,
+          ⊎_elim
+          (λ (before : k < array_start words to.array). omega (arith, before, into.0))
+          (λ (behind : array_start words to.array + words ≤ k). omega (arith, behind, into.1))
+          (other_outside words array to.array k is (omega arith) (omega (arith, room, alone))),
     )
 placed-op p to (Store array (Sum constant parts) r) ws q alone is fits =
     let words : ℕ = whole_lines p.size p.line in

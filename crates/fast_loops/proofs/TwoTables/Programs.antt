@@ -149,13 +149,6 @@ from_table least (suc n) table p fits apart =
 
 -- ---- what becomes of a program's fields
 
-tables-are : (items new : List (Vec ℕ Global)) (k : ℕ) (first second : Vec ℕ Global) →
-    new ≡ slice_set items k first ++ second ∷ [] →
-    plain_tables new ≡ slice_set (plain_tables items) k first.items ++ second.items ∷ []
-tables-are items new k first second e =
-    ap plain_tables e ∙ (map-append (λ (v : Vec ℕ Global). v.items) (slice_set items k first) (second ∷ [])
-    ∙ ap (λ xs. xs ++ second.items ∷ []) (map-set (λ (v : Vec ℕ Global). v.items) items k first))
-
 pub record IsMade (p : Program) (table : ℕ) (cut : Cut) (tables : List (Vec ℕ Global)) (phases : List (Vec Stmt Global)) : Type 0 where
   pub header : IsHeaderWithin p.size p.modulus p.procs p.line p.lanes (p.regs + 1)
   pub constants : are_tables_within p.modulus (plain_tables tables) ≡ true
@@ -182,7 +175,10 @@ is_made p table cut behind first second tables bodies phases can one two behind_
     let there : put_behind p table cut behind ≡ split_at q table cut =
     ap (put_behind p table cut) (behind_is ∙ sym (length-map p.tables.items (λ (v : Vec ℕ Global). v.items))) in
     let new_tables : plain_tables tables ≡ (in_factors q table cut).tables =
-    tables-are p.tables.items tables table first second tables_is ∙ ap₂ (λ xs ys. slice_set q.tables table xs ++ ys ∷ []) one two in
+    ap plain_tables tables_is
+    ∙ map-append (λ (v : Vec ℕ Global). v.items) (slice_set p.tables.items table first) (second ∷ [])
+    ∙ ap (λ xs. xs ++ second.items ∷ []) (map-set (λ (v : Vec ℕ Global). v.items) p.tables.items table first)
+    ∙ ap₂ (λ xs ys. slice_set q.tables table xs ++ ys ∷ []) one two in
     let new_phases : plain_phases phases ≡ map (factored_body (split_at q table cut)) q.phases =
     phases_are ∙ ap₂ (λ s xs. map (factored_body s) (plain_phases xs)) there bodies_are in
     record {
