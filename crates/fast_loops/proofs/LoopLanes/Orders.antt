@@ -9,7 +9,6 @@ use Rattle.std.proofs.lemmas.Bool.{true≢false}
 use Rattle.std.proofs.lemmas.List.{get_or_append_left, append_assoc}
 use Rattle.std.proofs.lemmas.List.Elements.{All-contains, All-take}
 use Rattle.icode.specs.declared.action.Action.{Action}
-use Rattle.icode.specs.declared.program.Array.TheVariants.{X}
 use Rattle.icode.specs.Actions.{Step, StepFits, actions_of, step_of, array_start, lane_factors}
 use Rattle.icode.specs.Machine.{value_put, lane_by_lane, whole_lines}
 use Rattle.icode.specs.Plain.{PlainOp, PlainProgram, Load, Store, Zero, Add, Sub, Neg, MulConst, MulTable, Tile}
