@@ -2,7 +2,7 @@
 use Rattle.std.proofs.Common.{◌≡◌, ℕ, zero, suc, ◌+◌, ◌*◌, ◌<◌, ◌≤◌, inl, inr, List, [], ◌∷◌, ◌++◌, length, map}
 use Rattle.std.proofs.Common.{Contains, refl, sym, ap, ap₂, ◌∙◌, arith, mul-le-mul_left, flat_map, subst, append-nil}
 use Rattle.std.proofs.Common.{◌≢◌, ◌⊎◌, append_assoc}
-use Rattle.std.specs.Prelude.{flat_map, slice_get, slice_set}
+use Rattle.std.specs.Prelude.{slice_get, slice_set}
 use Rattle.std.specs.List.{range_with_len}
 use Rattle.std.proofs.lemmas.Bool.{cases_eq, cases_lt}
 use Rattle.std.proofs.lemmas.List.{length-replicate}

@@ -1,6 +1,5 @@
 -- Operations on v lanes do in each lane what they do in a round.
-use Rattle.std.specs.Prelude.{◌≡◌, ℕ, ◌+◌, ◌*◌, ◌<◌, true, not, List, [], ◌∷◌, ◌++◌, map, length, slice_index}
-use Rattle.std.specs.Prelude.{◌==◌, slice_index_or}
+use Rattle.std.specs.Prelude.{map, slice_index, ◌==◌, slice_index_or}
 use Rattle.std.specs.List.{list_all}
 use Rattle.icode.specs.Actions.{actions_of, array_start, lane_factors, step_of}
 use Rattle.icode.specs.Machine.{Local, effects, effect, memory_after, value_put, whole_lines}

@@ -3,7 +3,7 @@ use Rattle.fast_loops.proofs.Bools.{three_true}
 use Rattle.std.proofs.Common.{◌≡◌, ℕ, suc, ◌+◌, ◌<◌, ◌≤◌, true, false, not, ◌&&◌, List, [], ◌∷◌, All, Contains, length}
 use Rattle.std.proofs.Common.{refl, ap, ap₂, ◌∙◌, subst, arith, inl, inr, eqb-true, ◌*◌, Option, Some, None, Bool, map}
 use Rattle.std.proofs.Common.{zero, ◌/◌, ◌%◌, ◌++◌, drop, sym, ltb-true, length-append}
-use Rattle.std.specs.Prelude.{◌==◌, nat_lt, ◌||◌, if◌then◌else◌, ◌&&◌, nat_le}
+use Rattle.std.specs.Prelude.{◌==◌, nat_lt, ◌||◌, if◌then◌else◌, nat_le}
 use Rattle.std.specs.List.{list_all, range_with_len}
 use Rattle.std.proofs.lemmas.Bool.{cases_eq, not-true}
 use Rattle.std.proofs.lemmas.List.Elements.{All-head, All-tail, All-filter, All-contains, All-take, All-drop}

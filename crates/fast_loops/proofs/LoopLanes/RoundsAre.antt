@@ -16,7 +16,6 @@ use Rattle.fast_loops.specs.LoopLanes.Columns.{in_columns, Factors}
 use Rattle.fast_loops.specs.LoopLanes.Loads.{Loaded, load_at, load_tile, load_tiles, behind, in_tiles}
 use Rattle.fast_loops.proofs.LoopLanes.RowsAre.{rows_in_lanes}
 use Rattle.fast_loops.proofs.LoopLanes.Wide.{moved}
-use Rattle.std.specs.Prelude.{◌/◌}
 use Rattle.std.proofs.Math.Nat.{div-mul-le_self}
 use Rattle.std.proofs.lemmas.List.{length-map}
 use Rattle.std.proofs.lemmas.List.FromFn.{length-map-range_with_len}

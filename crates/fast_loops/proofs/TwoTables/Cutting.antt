@@ -6,7 +6,7 @@ use Rattle.std.proofs.Common.{false, ◌++◌, Vec, Global, drop, ap₂, add-one
 use Rattle.std.proofs.Math.Nat.{div-mul-le_self, div-add-mod', mul-add-mod_self_right, mod-eq_of_lt}
 use Rattle.std.proofs.Math.Nat.{lt_of_mul-lt-mul_right, mul_assoc, div-lt_iff_lt-mul, le-mul_of_pos_right}
 use Rattle.std.proofs.lemmas.Nat.{div-mul-add, mod_below}
-use Rattle.std.specs.Prelude.{slice_index, nat_lt, Bool, slice_index_or}
+use Rattle.std.specs.Prelude.{slice_index, nat_lt, slice_index_or}
 use Rattle.std.specs.List.{range_with_len, list_all}
 use Rattle.ring_mod.specs.Residue.{product_mod}
 use Rattle.std.proofs.lemmas.Bool.{cases_eq}

@@ -1,7 +1,7 @@
 -- Places in two factors, and that a program with a table in two factors is within the limits of programs.
 use Rattle.std.proofs.Common.{◌≡◌, ℕ, zero, suc, ◌+◌, ◌*◌, ◌/◌, ◌%◌, ◌≤◌, true, List, refl, sym, ap, ◌∙◌, arith, subst}
 use Rattle.std.proofs.Common.{eqb-true, ◌&&◌, Bool, [], ◌∷◌, ◌++◌, map, ap₂, le-leb}
-use Rattle.std.specs.Prelude.{slice_index, ◌==◌, nat_lt, nat_le, max, ◌%◌, slice_set}
+use Rattle.std.specs.Prelude.{slice_index, ◌==◌, nat_lt, nat_le, max, slice_set}
 use Rattle.std.proofs.Math.Nat.{le-max_left, max-le, div-le_self, mod-le, zero-mod, mul-zero, mul-le-mul_right}
 use Rattle.std.proofs.Math.Nat.{div-add-mod', div-mul-le_self}
 use Rattle.ring_mod.proofs.Congruence.{same-add, same-mul}
