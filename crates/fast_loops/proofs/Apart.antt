@@ -106,7 +106,7 @@ others_behind vs i j k l us ws other e =
     (λ (ne : j ≢ l). ne (ap (λ (zs : List ℕ). slice_index_or zs 1 0) same))
     other
 
--- ---- values of linear places by what the loops' values add, and how far values of different rounds are from one another
+-- ---- values of linear places by what the loops' values add, and how far values of different rounds are apart
 
 -- ---- values
 

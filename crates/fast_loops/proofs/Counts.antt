@@ -70,7 +70,8 @@ pub inner-sunk : (loop outer : ℕ) (counts : List ℕ) (round : PlainBody) → 
 inner-sunk loop outer [] round e = e
 inner-sunk loop outer (count ∷ counts) round e =
     by_test (λ (nest : Nest). counts_in nest.round ≡ []) (steps_less loop (first_load round)) _ _
-    (λ less. inner-sunk (loop + 1) outer counts (exchanged_round loop round) (inner-exchanged loop round e)) (λ stays. e)
+    (λ less. inner-sunk (loop + 1) outer counts (exchanged_round loop round) (inner-exchanged loop round e))
+    (λ stays. e)
 
 pub inner-ordered : (loop outer : ℕ) (counts : List ℕ) (round : PlainBody) → counts_in round ≡ [] →
     counts_in (ordered loop outer counts round).round ≡ []

@@ -106,8 +106,8 @@ first-within loop factor n least (AndParts (Var depth inner) rest) deep top le s
     let known = var-within depth inner n (loop + 2) rest h in
     first_cases (λ parts. are_parts_within parts n least ≡ true) loop factor depth inner rest
     (λ same.
-    one-within loop inner n least (loop + 2) (AndParts (Var (loop + 1) factor) rest) (omega (arith, deep)) le known.small
-    (omega arith)
+    one-within loop inner n least (loop + 2) (AndParts (Var (loop + 1) factor) rest) (omega (arith, deep)) le
+    known.small (omega arith)
     (one-within (loop + 1) factor n (loop + 2) (loop + 3) rest deep (omega arith) small (omega arith)
     (parts-lower rest n (depth + 2) (loop + 3) (omega (arith, same)) known.behind)))
     (λ other.
@@ -157,8 +157,8 @@ first-alike : (loop factor : ℕ) (rest : PlainParts) →
     AreAlike (exchanged_first loop factor rest) (1 + all_parts rest) (max 0 (parts_depth rest))
 first-alike loop factor NoParts = (refl, refl)
 first-alike loop factor (AndParts (Var depth inner) rest) =
-    first_cases (λ parts. AreAlike parts (1 + (1 + all_parts rest)) (max 0 (max 0 (parts_depth rest)))) loop factor depth
-    inner rest (λ same. (refl, refl)) (λ other. (refl, refl))
+    first_cases (λ parts. AreAlike parts (1 + (1 + all_parts rest)) (max 0 (max 0 (parts_depth rest)))) loop factor
+    depth inner rest (λ same. (refl, refl)) (λ other. (refl, refl))
 first-alike loop factor (AndParts part rest) = (refl, refl)
 
 parts-alike : (loop : ℕ) (parts : PlainParts) →

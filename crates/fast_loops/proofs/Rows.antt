@@ -165,7 +165,7 @@ module _ (m lanes : ℕ) where
             (in-loop (λ j. round in_outer.round j) 0 inner at.round s at.low at.high in_outer.inside);
       }
 
--- ---- the steps of rounds in loops, one in the other: whole loops of rounds that are apart from others may come before or after them
+-- ---- the steps of rounds in loops, one in the other
 
 -- each step fits
 abbrev pub StepsFit : PlainProgram → List Step → Type 0

@@ -63,7 +63,8 @@ module _ (m : ℕ) where
     joined-within (suc n) (Do op) made depth h k = put-within (Do op) made depth h k
     joined-within (suc n) (Loop count inside) made depth h k =
         let more = three_true (is_small_positive count) (nat_lt depth 64) (is_body_within m inside (depth + 1)) h in
-        last-within (all_joined n inside) depth (λ body low. all-joined-within n inside body (depth + 1) more.2 low) made k
+        last-within (all_joined n inside) depth (λ body low. all-joined-within n inside body (depth + 1) more.2 low) made
+        k
 
     all-joined-within : (n : ℕ) (body made : PlainBody) (depth : ℕ) → is_body_within m body depth ≡ true →
         is_body_within m made depth ≡ true →

@@ -1,4 +1,4 @@
--- Operations that are done in lanes, rows of tiles, products of these, and loads, touch words that the rounds touch, and fit.
+-- Operations that are done in lanes, rows of tiles, products and loads touch words that the rounds touch, and fit.
 use Rattle.std.proofs.Common.{◌≡◌, ℕ, ◌+◌, ◌-◌, ◌*◌, ◌^◌, ◌<◌, ◌≤◌, true, not, List, [], ◌∷◌, ◌++◌, All, Contains}
 use Rattle.std.proofs.Common.{length, replicate, refl, sym, ap, ◌∙◌, subst, arith, eqb-true, ◌⊎◌}
 use Rattle.std.specs.Prelude.{◌==◌, slice_index, slice_index_or}
@@ -139,7 +139,8 @@ module _ (v : ℕ) (p : PlainProgram) (ops : List PlainOp) (vs : List ℕ) (b q 
         (f r < 3 * p.regs) × (f x < 3 * p.regs) × (f y < 3 * p.regs)
     low_three r x y h = (low r h.0, low x h.1, low y h.2)
 
-    wide_load_covered : (r : ℕ) (array : Array) (place : PlainExpr) → is_linear place ≡ true → place_stride loop place ≡ 1 →
+    wide_load_covered : (r : ℕ) (array : Array) (place : PlainExpr) → is_linear place ≡ true →
+        place_stride loop place ≡ 1 →
         Contains ops (Load r array place) → Covered (Load (f r) array (widened v loop place))
     wide_load_covered r array place linear unit has =
         let old = known (Load r array place) has in

@@ -1,4 +1,4 @@
--- Loads by tiles: after them each lane holds the row of its round, and what comes after them leaves what v rounds write.
+-- Loads by tiles: after them each lane holds the row of its round, and what follows leaves what v rounds write.
 use Rattle.std.proofs.Common.{◌≡◌, ℕ, zero, suc, ◌+◌, ◌-◌, ◌*◌, ◌/◌, ◌%◌, ◌<◌, ◌≤◌, true, List, [], ◌∷◌, ◌++◌, map}
 use Rattle.std.proofs.Common.{length, flat_map, refl, sym, ap, ◌∙◌, arith, inl, ⊎_elim, mul_comm, All, drop, subst}
 use Rattle.std.proofs.Common.{Bool, not}
@@ -306,11 +306,13 @@ module _ (v : ℕ) (p : PlainProgram) (to : Stored) (ops : List PlainOp) (vs : L
       let first : Local = effects p.modulus v (wide_acts v p to vs b q row_loads) begun in
       let finals : ℕ → List ℕ = values_in v p memory ops vs b q in
       let rows =
-      rows_held v p from vs b q known.first.linear (2 * p.regs) m begun row_some known.first.whole (omega (arith, row_few))
+      rows_held v p from vs b q known.first.linear (2 * p.regs) m begun row_some known.first.whole
+      (omega (arith, row_few))
       (omega (arith, row_few, lanes_few v (length vs) to ops from m known.first row_some)) room in
       let is =
       rows_from v p keep vs b q to group.linear known.unit group.alone row_some
-      (λ r below. omega (arith, below)) (λ r k below under e. e) memory first (row_in v p from vs b q m memory) m row_rest
+      (λ r below. omega (arith, below)) (λ r k below under e. e) memory first (row_in v p from vs b q m memory) m
+      row_rest
       (rest_fresh v (length vs) to ops from m known.first group.fresh) known.by_lane fits
       (record {
         room = omega (arith, room, length-registers p.modulus v (wide_acts v p to vs b q row_loads) begun);
@@ -318,7 +320,8 @@ module _ (v : ℕ) (p : PlainProgram) (to : Stored) (ops : List PlainOp) (vs : L
         held = row_held v p from vs b q m known.first.linear keep (λ r low. refl) begun first rows;
       }) in
       ap (λ (z : Local). z.memory) (wide_follow v p to vs b q row_loads wide begun)
-      ∙ ap (λ new. (effects p.modulus v (wide_acts v p to vs b q new) first).memory) (rows_in_lanes v (length vs) row_rest)
+      ∙ ap (λ new. (effects p.modulus v (wide_acts v p to vs b q new) first).memory)
+      (rows_in_lanes v (length vs) row_rest)
       ∙ is
       ∙ ap (λ words. written words (lane_writes v p keep vs b q (values_behind memory) row_rest)) rows.memory
       ∙ ap (λ values. written memory (lane_writes v p keep vs b q values row_rest))
@@ -407,7 +410,8 @@ module _ (v : ℕ) (p : PlainProgram) (to : Stored) (ops : List PlainOp) (vs : L
   pub tiles_write : AreLinearBy v p to vs b q c.by → AreStored v p to ops vs b q c →
       LeaveWrites v p (in_tiles v p.regs (length vs) to c from m) ops vs b q
   tiles_write linear_by stored =
-      subst (λ new. LeaveWrites v p new ops vs b q) (append_assoc front_loads front_rest (tiles_of v p to ops vs b q group c))
+      subst (λ new. LeaveWrites v p new ops vs b q)
+      (append_assoc front_loads front_rest (tiles_of v p to ops vs b q group c))
       (columns_from v p to ops vs b q c (front_loads ++ front_rest) group told.turned few before holds linear_by stored)
 
 -- ---- the laws

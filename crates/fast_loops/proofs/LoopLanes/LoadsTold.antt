@@ -195,7 +195,7 @@ factored_good v loop to ops h =
       factors = multiplied_by v loop ops (first_factors (last_products ops)) two.0;
     }
 
--- ---- the ways in which rounds become lanes: what holds of each of them, where its test passes, holds of what they become
+-- ---- the ways in which rounds become lanes: what holds of each, where its test passes, holds of what they become
 
 -- what holds of two things, each where its test passes, holds of the first whose test passes
 of_either : {X : Type 0} (P : X → Type 0) (a c : Bool) (x y : X) → (a || c) ≡ true →

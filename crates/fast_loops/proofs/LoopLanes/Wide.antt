@@ -69,7 +69,8 @@ moved-parts v loop parts vs b q h deep =
 pub widened_value : (v loop : ℕ) (place : PlainExpr) (vs : List ℕ) (b q : ℕ) →
     is_linear place ≡ true → length vs ≡ loop →
     sum_numbers (widened v loop place) (vs ++ b ∷ []) q ≡ sum_numbers place (vs ++ (v * b) ∷ []) q
-widened_value v loop (Sum constant parts) vs b q h deep = ap (with_sum constant) (moved-parts v loop parts vs b q h deep)
+widened_value v loop (Sum constant parts) vs b q h deep =
+    ap (with_sum constant) (moved-parts v loop parts vs b q h deep)
 
 -- ---- rounds after the first
 

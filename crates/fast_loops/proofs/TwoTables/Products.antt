@@ -368,8 +368,9 @@ module _ (p : PlainProgram) (table : ℕ) (cut : Cut) (is : IsSplit p table cut)
   op-for : (op : PlainOp) (vs : List ℕ) (i : ℕ) → is_op_even p.lanes table op ≡ true → StepFits p (step_of p op vs i) →
       AreFor p there (steps_of_all there (factored_op split op) vs i) (step_of p op vs i ∷ [])
   op-for (MulTable r x of place step) vs i even fit =
-      by_equal (λ stmts. AreFor p there (steps_of_all there stmts vs i) (step_of p (MulTable r x of place step) vs i ∷ []))
-      of table (two_products split (MulTable r x of place step)) (Do (MulTable r x of place step) ∷ [])
+      by_equal
+      (λ stmts. AreFor p there (steps_of_all there stmts vs i) (step_of p (MulTable r x of place step) vs i ∷ [])) of table
+      (two_products split (MulTable r x of place step)) (Do (MulTable r x of place step) ∷ [])
       (λ e.
       let h = both_true (nat_lt step 2) _ (sym (chosen of table _ true e) ∙ even) in
       subst (λ k. AreFor p there (steps_of_all there (two_products split (MulTable r x of place step)) vs i)
