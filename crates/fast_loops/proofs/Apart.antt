@@ -1,25 +1,253 @@
 -- Different rounds of loops one in the other are apart.
-use Rattle.std.proofs.Common.{◌≡◌, ◌≢◌, ◌⊎◌, ℕ, ◌+◌, ◌<◌, ◌≤◌, true, false, not, List, All, Contains, flat_map, refl}
-use Rattle.std.proofs.Common.{ap, arith, inl, inr, ⊎_elim, true≢false}
-use Rattle.std.proofs.lemmas.Bool.{not-true}
-use Rattle.std.proofs.lemmas.List.Elements.{All-head, All-tail, Contains-append_cases}
+use Rattle.fast_loops.proofs.Bools.{three_true}
+use Rattle.std.proofs.Common.{◌≡◌, ◌≢◌, ◌⊎◌, ℕ, zero, suc, ◌<◌, List, [], ◌∷◌, ◌++◌, drop, length, refl, ap, ⊎_elim}
+use Rattle.std.proofs.Common.{◌+◌, ◌*◌, ◌≤◌, true, sym, ap₂, ◌∙◌, arith, inl, inr, leb-true, mul-le-mul_left, false}
+use Rattle.std.proofs.Common.{not, All, Contains, flat_map, true≢false}
+use Rattle.std.specs.Prelude.{slice_index_or, slice_index, nat_le}
 use Rattle.icode.specs.CodeLaws.Nests.{AreInRange}
+use Rattle.std.proofs.lemmas.Bool.{cases_order, not-true}
+use Rattle.icode.specs.Expression.{parts_numbers, sum_numbers}
+use Rattle.icode.specs.Plain.{PlainParts, NoParts, AndParts, Proc, Var, PlainOp, PlainBody, PlainProgram, Sum, Load}
+use Rattle.icode.specs.Plain.{Store, Loop, Do, NoStmts, AndStmts}
+use Rattle.icode.proofs.Bools.{both_true}
+use Rattle.fast_loops.specs.Places.{are_linear, stride, is_linear}
+use Rattle.fast_loops.specs.Rounds.{are_nested, last_stride, Stored, same_array, is_placed, are_placed, are_apart}
+use Rattle.fast_loops.proofs.Linear.{wrong, chosen, passed, proc_first, from_least, stride_before, store_told}
+use Rattle.std.proofs.lemmas.List.Elements.{All-head, All-tail, Contains-append_cases}
 use Rattle.icode.specs.declared.action.Action.{Action}
 use Rattle.icode.specs.declared.program.Array.{Array}
 use Rattle.icode.specs.declared.program.Array.TheVariants.{X, Y, A, B}
 use Rattle.icode.specs.Actions.{Step, StepFits, actions_of, array_start, step_of, steps_of_body}
-use Rattle.icode.specs.Expression.{sum_numbers, parts_numbers}
 use Rattle.icode.specs.Machine.{stored_words, whole_lines}
-use Rattle.icode.specs.Plain.{PlainParts, PlainOp, PlainBody, PlainProgram, Sum, Load, Store, Loop, Do, NoStmts}
-use Rattle.icode.specs.Plain.{AndStmts}
-use Rattle.icode.proofs.Bools.{both_true}
 use Rattle.icode.proofs.Lines.{Contains-nil}
-use Rattle.fast_loops.specs.Places.{are_linear, is_linear}
-use Rattle.fast_loops.specs.Rounds.{Stored, same_array, is_placed, are_placed, are_nested, last_stride, are_apart}
 use Rattle.fast_loops.proofs.Acts.{loaded_words, Loads, Stores, AreApart}
-use Rattle.fast_loops.proofs.Linear.{wrong, store_told}
-use Rattle.fast_loops.proofs.Strides.{added, value_by_strides, rounds_differ}
 use Rattle.fast_loops.proofs.Members.{range_item}
+
+pub long_range : (bs vs : List ℕ) → AreInRange bs vs → length vs ≡ length bs
+long_range [] [] h = refl
+long_range [] (v ∷ vs) h = absurd h
+long_range (b ∷ bs) [] h = absurd h
+long_range (b ∷ bs) (v ∷ vs) h = ap suc (long_range bs vs h.1)
+
+pub in_both : (bs cs vs us : List ℕ) → AreInRange bs vs → AreInRange cs us → AreInRange (bs ++ cs) (vs ++ us)
+in_both [] cs [] us h k = k
+in_both [] cs (v ∷ vs) us h k = absurd h
+in_both (b ∷ bs) cs [] us h k = absurd h
+in_both (b ∷ bs) cs (v ∷ vs) us h k = (h.0, in_both bs cs vs us h.1 k)
+
+-- a value for one loop more
+pub in_more : (bs vs : List ℕ) (count i : ℕ) → AreInRange bs vs → i < count →
+    AreInRange (bs ++ count ∷ []) (vs ++ i ∷ [])
+in_more bs vs count i h lt = in_both bs (count ∷ []) vs (i ∷ []) h (lt, tt)
+
+-- the value at this depth and the next change places
+abbrev pub turned : ℕ → List ℕ → List ℕ
+turned zero [] = []
+turned zero (j ∷ []) = j ∷ []
+turned zero (j ∷ i ∷ us) = i ∷ j ∷ us
+turned (suc n) [] = []
+turned (suc n) (v ∷ us) = v ∷ turned n us
+
+pub turned_back : (n : ℕ) (us : List ℕ) → turned n (turned n us) ≡ us
+turned_back zero [] = refl
+turned_back zero (j ∷ []) = refl
+turned_back zero (j ∷ i ∷ us) = refl
+turned_back (suc n) [] = refl
+turned_back (suc n) (v ∷ us) = ap (λ (zs : List ℕ). v ∷ zs) (turned_back n us)
+
+pub turned_in_range : (bs : List ℕ) (first second : ℕ) (cs us : List ℕ) → AreInRange (bs ++ first ∷ second ∷ cs) us →
+    AreInRange (bs ++ second ∷ first ∷ cs) (turned (length bs) us)
+turned_in_range [] first second cs [] h = absurd h
+turned_in_range [] first second cs (j ∷ []) h = absurd h.1
+turned_in_range [] first second cs (j ∷ i ∷ us) h = (h.1.0, (h.0, h.1.1))
+turned_in_range (b ∷ bs) first second cs [] h = absurd h
+turned_in_range (b ∷ bs) first second cs (v ∷ us) h = (h.0, turned_in_range bs first second cs us h.1)
+
+-- values of outer loops, of the two, and of inner loops
+pub record AreSplit (depth : ℕ) (us : List ℕ) : Type 0 where
+  pub before : List ℕ
+  pub first : ℕ
+  pub second : ℕ
+  pub behind : List ℕ
+  pub is : us ≡ before ++ first ∷ second ∷ behind
+  pub turn : turned depth us ≡ before ++ second ∷ first ∷ behind
+  pub long : length before ≡ depth
+
+pub split_range : (bs : List ℕ) (first second : ℕ) (cs us : List ℕ) → AreInRange (bs ++ first ∷ second ∷ cs) us →
+    AreSplit (length bs) us
+split_range [] first second cs [] h = absurd h
+split_range [] first second cs (j ∷ []) h = absurd h.1
+split_range [] first second cs (j ∷ i ∷ us) h =
+    record { before = []; first = j; second = i; behind = us; is = refl; turn = refl; long = refl }
+split_range (b ∷ bs) first second cs [] h = absurd h
+split_range (b ∷ bs) first second cs (v ∷ us) h =
+    let rest = split_range bs first second cs us h.1 in
+    record {
+      before = v ∷ rest.before;
+      first = rest.first;
+      second = rest.second;
+      behind = rest.behind;
+      is = ap (λ (zs : List ℕ). v ∷ zs) rest.is;
+      turn = ap (λ (zs : List ℕ). v ∷ zs) rest.turn;
+      long = ap suc rest.long;
+    }
+
+-- what comes after the same values
+pub same_behind : (vs us ws : List ℕ) → vs ++ us ≡ vs ++ ws → us ≡ ws
+same_behind [] us ws e = e
+same_behind (v ∷ vs) us ws e = same_behind vs us ws (ap (λ (zs : List ℕ). drop 1 zs) e)
+
+pub others_behind : (vs : List ℕ) (i j k l : ℕ) (us ws : List ℕ) → (i ≢ k) ⊎ (j ≢ l) →
+    vs ++ i ∷ j ∷ us ≢ vs ++ k ∷ l ∷ ws
+others_behind vs i j k l us ws other e =
+    let same = same_behind vs (i ∷ j ∷ us) (k ∷ l ∷ ws) e in
+    ⊎_elim
+    (λ (ne : i ≢ k). ne (ap (λ (zs : List ℕ). slice_index_or zs 0 0) same))
+    (λ (ne : j ≢ l). ne (ap (λ (zs : List ℕ). slice_index_or zs 1 0) same))
+    other
+
+-- ---- values of linear places by what the loops' values add, and how far values of different rounds are apart
+
+-- ---- values
+
+-- what the values of loops from this depth on add to a linear place
+abbrev pub added : ℕ → List ℕ → PlainParts → ℕ
+added loop [] parts = 0
+added loop (v ∷ vs) parts = v * stride loop parts + added (loop + 1) vs parts
+
+added-none : (loop : ℕ) (vs : List ℕ) → added loop vs NoParts ≡ 0
+added-none loop [] = refl
+added-none loop (v ∷ vs) = let more = added-none (loop + 1) vs in omega (arith, more)
+
+added-proc : (loop factor : ℕ) (vs : List ℕ) (rest : PlainParts) →
+    added loop vs (AndParts (Proc factor) rest) ≡ added loop vs rest
+added-proc loop factor [] rest = refl
+added-proc loop factor (v ∷ vs) rest = ap (λ n. v * stride loop rest + n) (added-proc (loop + 1) factor vs rest)
+
+-- a multiple of an outer loop adds nothing
+added-outer : (loop depth factor : ℕ) (vs : List ℕ) (rest : PlainParts) → depth < loop →
+    added loop vs (AndParts (Var depth factor) rest) ≡ added loop vs rest
+added-outer loop depth factor [] rest before = refl
+added-outer loop depth factor (v ∷ vs) rest before =
+    ap₂ (λ s n. v * s + n)
+    (passed depth loop factor (stride loop rest) (λ e. omega (arith, e, before)))
+    (added-outer (loop + 1) depth factor vs rest (omega (arith, before)))
+
+-- a multiple of one loop more
+added-var : (loop depth k factor : ℕ) (vs : List ℕ) (rest : PlainParts) → depth ≡ loop + k → stride depth rest ≡ 0 →
+    added loop vs (AndParts (Var depth factor) rest) ≡ slice_index vs k * factor + added loop vs rest
+added-var loop depth k factor [] rest is none = omega arith
+added-var loop depth zero factor (v ∷ vs) rest is none =
+    let same : depth ≡ loop = omega (arith, is) in
+    let here : stride loop rest ≡ 0 = ap (λ d. stride d rest) (sym same) ∙ none in
+    ap₂ (λ s n. v * s + n)
+    (chosen depth loop factor (stride loop rest) same)
+    (added-outer (loop + 1) depth factor vs rest (omega (arith, same)))
+    ∙ nothing (v * factor) v (added (loop + 1) vs rest)
+    ∙ ap (λ s. v * factor + (v * s + added (loop + 1) vs rest)) (sym here)
+  where
+    nothing : (a b c : ℕ) → a + c ≡ a + (b * 0 + c)
+    nothing a b c = omega arith
+added-var loop depth (suc k) factor (v ∷ vs) rest is none =
+    let more = added-var (loop + 1) depth k factor vs rest (omega (arith, is)) none in
+    ap₂ (λ s n. v * s + n) (passed depth loop factor (stride loop rest) (λ e. omega (arith, e, is))) more
+    ∙ turned (v * stride loop rest) (slice_index vs k * factor) (added (loop + 1) vs rest)
+  where
+    turned : (a b c : ℕ) → a + (b + c) ≡ b + (a + c)
+    turned a b c = omega arith
+
+-- the value in a round, by that where no loop is open
+pub value_by_strides : (least : ℕ) (parts : PlainParts) (vs : List ℕ) (q : ℕ) → are_linear least parts ≡ true →
+    (parts_numbers parts vs q).value ≡ (parts_numbers parts [] q).value + added 0 vs parts
+value_by_strides least NoParts vs q h = let none = added-none 0 vs in omega (arith, none)
+value_by_strides least (AndParts (Proc factor) rest) vs q h =
+    let more = value_by_strides least rest vs q (proc_first least factor rest h).1 in
+    let added = added-proc 0 factor vs rest in
+    omega (arith, more, added)
+value_by_strides least (AndParts (Var depth factor) rest) vs q h =
+    let two = from_least least depth _ h in
+    let more = value_by_strides (depth + 1) rest vs q two.1 in
+    let one = added-var 0 depth depth factor vs rest (omega arith) (stride_before (depth + 1) depth rest two.1 (omega arith)) in
+    omega (arith, more, one)
+value_by_strides least (AndParts part rest) vs q h = wrong h
+
+-- ---- different rounds
+
+-- a later value goes a step farther at least
+farther : (s v w rest : ℕ) → v < w → rest ≤ s → v * s + rest ≤ w * s
+farther s v w rest less within =
+    let next : v + 1 ≤ w = omega (arith, less) in
+    let steps : s * (v + 1) ≤ s * w = mul-le-mul_left s next in
+    let out : s * (v + 1) ≡ s * v + s = omega arith in
+    omega (arith, steps, out, within)
+
+-- the rounds of the loops in a loop stay within its step
+within-step : (loop count : ℕ) (counts : List ℕ) (parts : PlainParts) (vs : List ℕ) →
+    are_nested loop (count ∷ counts) parts ≡ true →
+    AreInRange counts vs → added (loop + 1) vs parts + last_stride loop (count ∷ counts) parts ≤ stride loop parts
+within-step loop count [] parts [] nested low = omega arith
+within-step loop count [] parts (v ∷ vs) nested low = absurd low
+within-step loop count (inner ∷ counts) parts [] nested low = absurd low
+within-step loop count (inner ∷ counts) parts (v ∷ vs) nested low =
+    let two = both_true (nat_le (inner * stride (loop + 1) parts) (stride loop parts)) _ nested in
+    let wide : inner * stride (loop + 1) parts ≤ stride loop parts = leb-true _ _ two.0 in
+    let more = within-step (loop + 1) inner counts parts vs two.1 low.1 in
+    let far = farther (stride (loop + 1) parts) v inner _ low.0 more in
+    omega (arith, wide, far)
+
+-- an earlier round of a loop ends before a later one begins
+later : (loop count v w : ℕ) (counts vs ws : List ℕ) (parts : PlainParts) →
+    are_nested loop (count ∷ counts) parts ≡ true → AreInRange counts vs → v < w →
+    added loop (v ∷ vs) parts + last_stride loop (count ∷ counts) parts ≤ added loop (w ∷ ws) parts
+later loop count v w counts vs ws parts nested low less =
+    let far = farther (stride loop parts) v w _ less (within-step loop count counts parts vs nested low) in
+    omega (arith, far)
+
+nested-behind : (loop count : ℕ) (counts : List ℕ) (parts : PlainParts) →
+    are_nested loop (count ∷ counts) parts ≡ true → are_nested (loop + 1) counts parts ≡ true
+nested-behind loop count [] parts nested = refl
+nested-behind loop count (inner ∷ counts) parts nested =
+    (both_true (nat_le (inner * stride (loop + 1) parts) (stride loop parts)) _ nested).1
+
+-- of two rounds, one ends before the other begins
+abbrev pub OneEndsBefore : ℕ → List ℕ → PlainParts → List ℕ → List ℕ → Type 0
+OneEndsBefore loop counts parts vs ws =
+    (added loop vs parts + last_stride loop counts parts ≤ added loop ws parts) ⊎ (added loop ws parts + last_stride loop counts parts ≤ added loop vs parts)
+
+-- in the same round of a loop
+same-round : (loop count v w : ℕ) (counts : List ℕ) (parts : PlainParts) (vs ws : List ℕ) → AreInRange counts vs →
+    AreInRange counts ws → vs ≢ ws → v ≡ w →
+    OneEndsBefore (loop + 1) counts parts vs ws → OneEndsBefore loop (count ∷ counts) parts (v ∷ vs) (w ∷ ws)
+same-round loop count v w [] parts [] [] low lower other same more = absurd (other refl)
+same-round loop count v w [] parts (x ∷ vs) ws low lower other same more = absurd low
+same-round loop count v w [] parts [] (x ∷ ws) low lower other same more = absurd lower
+same-round loop count v w (inner ∷ counts) parts vs ws low lower other same more =
+    let rows : v * stride loop parts ≡ w * stride loop parts = ap (λ n. n * stride loop parts) same in
+    elim more [
+      | inl less ↦ inl (omega (arith, rows, less))
+      | inr greater ↦ inr (omega (arith, rows, greater))
+    ]
+
+-- different rounds do not meet
+pub rounds_differ : (loop : ℕ) (counts : List ℕ) (parts : PlainParts) (vs ws : List ℕ) →
+    are_nested loop counts parts ≡ true →
+    AreInRange counts vs → AreInRange counts ws → vs ≢ ws → OneEndsBefore loop counts parts vs ws
+rounds_differ loop [] parts [] [] nested low lower other = absurd (other refl)
+rounds_differ loop [] parts (v ∷ vs) ws nested low lower other = absurd low
+rounds_differ loop [] parts [] (w ∷ ws) nested low lower other = absurd lower
+rounds_differ loop (count ∷ counts) parts [] ws nested low lower other = absurd low
+rounds_differ loop (count ∷ counts) parts (v ∷ vs) [] nested low lower other = absurd lower
+rounds_differ loop (count ∷ counts) parts (v ∷ vs) (w ∷ ws) nested low lower other =
+    elim (cases_order v w) [
+      | inl same ↦
+          let differ : vs ≢ ws = λ e. other (ap₂ (λ (x : ℕ) xs. x ∷ xs) same e) in
+          same-round loop count v w counts parts vs ws low.1 lower.1 differ same
+          (rounds_differ (loop + 1) counts parts vs ws (nested-behind loop count counts parts nested) low.1 lower.1 differ)
+      | inr (inl less) ↦ inl (later loop count v w counts vs ws parts nested low.1 less)
+      | inr (inr more) ↦ inr (later loop count w v counts ws vs parts nested lower.1 more)
+    ]
+
+-- ---- different rounds of loops one in the other are apart
 
 -- ---- arrays
 
@@ -161,18 +389,17 @@ pub apart_rounds : (p : PlainProgram) (counts : List ℕ) (to : Stored) (body : 
 apart_rounds p counts to body vs ws q apart low lower other fit fits =
     let parts : PlainParts = to.parts in
     let step : ℕ = last_stride 0 counts parts in
-    let two = both_true (are_linear 0 parts) _ apart in
-    let more = both_true (are_nested 0 counts parts) (are_placed p.lanes to step body) two.1 in
-    let one = value_by_strides 0 parts vs q two.0 in
-    let another = value_by_strides 0 parts ws q two.0 in
+    let more = three_true (are_linear 0 parts) (are_nested 0 counts parts) (are_placed p.lanes to step body) apart in
+    let one = value_by_strides 0 parts vs q more.0 in
+    let another = value_by_strides 0 parts ws q more.0 in
     record {
-      into = λ k s t. never-both p to _ step k (stored-in p step to body vs q k more.1 fit s) (loaded-in p step to body ws q k more.1 fits t);
-      from = λ k s t. never-both p to _ step k (stored-in p step to body ws q k more.1 fits t) (loaded-in p step to body vs q k more.1 fit s);
+      into = λ k s t. never-both p to _ step k (stored-in p step to body vs q k more.2 fit s) (loaded-in p step to body ws q k more.2 fits t);
+      from = λ k s t. never-both p to _ step k (stored-in p step to body ws q k more.2 fits t) (loaded-in p step to body vs q k more.2 fit s);
       words = λ k s t.
-          let first = stored-in p step to body vs q k more.1 fit s in
-          let second = stored-in p step to body ws q k more.1 fits t in
+          let first = stored-in p step to body vs q k more.2 fit s in
+          let second = stored-in p step to body ws q k more.2 fits t in
           ⊎_elim
           (λ (h : added 0 vs parts + step ≤ added 0 ws parts). never-same p to _ _ step k (omega (arith, one, another, h)) first second)
           (λ (h : added 0 ws parts + step ≤ added 0 vs parts). never-same p to _ _ step k (omega (arith, one, another, h)) second first)
-          (rounds_differ 0 counts parts vs ws more.0 low lower other);
+          (rounds_differ 0 counts parts vs ws more.1 low lower other);
     }

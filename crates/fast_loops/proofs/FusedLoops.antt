@@ -1,8 +1,6 @@
 pub mod Blocks
-pub mod Follows
 pub mod Joins
 pub mod Law
-pub mod Limited
 pub mod Programs
 pub mod Seen
 pub mod Steps

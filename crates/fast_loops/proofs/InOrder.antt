@@ -4,8 +4,7 @@ use Rattle.std.proofs.Common.{◌≡◌, ℕ, zero, suc, ◌+◌, ◌*◌, ◌<�
 use Rattle.std.proofs.Common.{arith}
 use Rattle.std.specs.Prelude.{slice_index_or, slice_set, replicate}
 use Rattle.icode.specs.declared.action.Action.{Action}
-use Rattle.icode.specs.Machine.{Code, Whole, acts, start, processor_alone, processors_alone, phases_alone}
-use Rattle.icode.specs.Machine.{in_order}
+use Rattle.icode.specs.Machine.{Code, Whole, acts, start, processor_alone, processors_alone, phases_alone, in_order}
 use Rattle.icode.proofs.CodeLaws.Stores.{length-registers}
 use Rattle.fast_loops.proofs.Acts.{memory_by, registers_by}
 

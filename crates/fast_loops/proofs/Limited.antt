@@ -1,29 +1,36 @@
 -- Interchanged loops stand within the limits of programs.
-use Rattle.std.proofs.Common.{◌≡◌, ◌≢◌, ◌⊎◌, inl, inr, ℕ, suc, ◌+◌, ◌<◌, ◌≤◌, List, [], ◌∷◌, Bool, true, false, ap, sym}
-use Rattle.std.proofs.Common.{◌∙◌, arith, refl, ltb-true, lt-ltb, map, length}
-use Rattle.std.specs.Prelude.{◌&&◌, ◌==◌, nat_lt, nat_le, max, if◌then◌else◌}
+use Rattle.fast_loops.proofs.Bools.{three_true, both_kept, later_kept, by_test}
+use Rattle.std.proofs.Common.{mul-le-mul_left, ◌*◌, ◌≡◌, ◌≢◌, ℕ, suc, ◌+◌, ◌<◌, ◌≤◌, List, [], ◌∷◌, Bool, true, ap, sym}
+use Rattle.std.proofs.Common.{ap₂, ◌∙◌, arith, refl, ltb-true, lt-ltb, map, length}
+use Rattle.std.specs.Prelude.{◌&&◌, nat_lt, nat_le, max}
 use Rattle.std.specs.List.{list_all}
 use Rattle.std.proofs.lemmas.Bool.{leb-true, le-leb, and_parts, and_from}
-use Rattle.std.proofs.lemmas.Bool.Decides.{eqb_tells}
 use Rattle.icode.specs.Limits.{rank, next_rank, is_small, is_small_positive, is_part_within, are_parts_within}
 use Rattle.icode.specs.Limits.{all_parts, part_parts, parts_depth, part_depth, is_expr_within, is_op_within}
 use Rattle.icode.specs.Limits.{is_stmt_within, is_body_within, are_phases_within}
 use Rattle.icode.specs.Plain.{PlainExpr, PlainParts, PlainPart, PlainOp, PlainStmt, PlainBody, Sum, NoParts, AndParts}
-use Rattle.icode.specs.Plain.{Proc, Var}
-use Rattle.icode.specs.Plain.{Load, Store, MulTable, Loop, Do}
-use Rattle.icode.specs.Plain.{NoStmts, AndStmts}
+use Rattle.icode.specs.Plain.{Proc, Var, Load, Store, MulTable, Loop, Do, NoStmts, AndStmts}
 use Rattle.fast_loops.specs.Interchange.{Nest, counts_in, round_in, looped, nest_stmt, within, sunk, ordered}
 use Rattle.fast_loops.specs.Interchange.{interchanged_nest, interchanged_body}
 use Rattle.fast_loops.specs.Places.{exchanged_first, exchanged_parts, exchanged_place, exchanged_op, exchanged_round}
 use Rattle.fast_loops.specs.Rounds.{first_store, first_load, steps_less, are_independent}
 use Rattle.fast_loops.specs.View.{loops_in, is_shallow, are_shallow}
-use Rattle.fast_loops.proofs.Looped.{looped_is}
-use Rattle.fast_loops.proofs.Phases.{all-within}
+use Rattle.fast_loops.proofs.Linear.{first_cases, parts_cases}
+use Rattle.fast_loops.proofs.Counts.{looped_is}
+use Rattle.fast_loops.proofs.InPlace.{all-within}
 
 -- ---- parts
 
 pub and_three : (a b c : Bool) → a ≡ true → b ≡ true → c ≡ true → (a && (b && c)) ≡ true
 and_three a b c ea eb ec = and_from a (b && c) ea (and_from b c eb ec)
+
+-- a product of positive numbers
+pub positive-product : (a b : ℕ) → 0 < a → is_small_positive b ≡ true → is_small (a * b) ≡ true →
+    is_small_positive (a * b) ≡ true
+positive-product a b some h small =
+    let low : 0 < b = ltb-true 0 b (and_parts (nat_lt 0 b) (is_small b) h).0 in
+    let more : a * 1 ≤ a * b = mul-le-mul_left a low in
+    and_from (nat_lt 0 (a * b)) (is_small (a * b)) (lt-ltb 0 (a * b) (omega (arith, some, more))) small
 
 -- what is known of a part in front
 record IsPartWithin (part : PlainPart) (n least : ℕ) (rest : PlainParts) : Type 0 where
@@ -34,9 +41,8 @@ record IsPartWithin (part : PlainPart) (n least : ℕ) (rest : PlainParts) : Typ
 part-within : (part : PlainPart) (n least : ℕ) (rest : PlainParts) →
     are_parts_within (AndParts part rest) n least ≡ true → IsPartWithin part n least rest
 part-within part n least rest h =
-    let two = and_parts (is_part_within part n) _ h in
-    let more = and_parts (nat_le least (rank part)) _ two.1 in
-    record { within = two.0; ranked = leb-true least (rank part) more.0; behind = more.1 }
+    let more = three_true (is_part_within part n) (nat_le least (rank part)) _ h in
+    record { within = more.0; ranked = leb-true least (rank part) more.1; behind = more.2 }
 
 part-is : (part : PlainPart) (n least : ℕ) (rest : PlainParts) → IsPartWithin part n least rest →
     are_parts_within (AndParts part rest) n least ≡ true
@@ -71,14 +77,6 @@ one-within depth a n least behind rest deep le ea lower h =
       behind = parts-lower rest n behind (suc (1 + depth)) (omega (arith, lower)) h;
     })
 
--- two of them
-pair-within : (loop a b n least : ℕ) (rest : PlainParts) → loop + 1 < n → least ≤ loop + 1 →
-    is_small_positive a ≡ true → is_small_positive b ≡ true → are_parts_within rest n (loop + 3) ≡ true →
-    are_parts_within (AndParts (Var loop a) (AndParts (Var (loop + 1) b) rest)) n least ≡ true
-pair-within loop a b n least rest deep le ea eb h =
-    one-within loop a n least (loop + 2) (AndParts (Var (loop + 1) b) rest) (omega (arith, deep)) le ea (omega arith)
-    (one-within (loop + 1) b n (loop + 2) (loop + 3) rest deep (omega arith) eb (omega arith) h)
-
 -- what is known of a multiple of a loop's value in front
 pub record IsVarWithin (depth a n least : ℕ) (rest : PlainParts) : Type 0 where
   pub deep : depth < n
@@ -105,21 +103,18 @@ first-within : (loop factor n least : ℕ) (rest : PlainParts) → loop + 1 < n 
 first-within loop factor n least NoParts deep top le small h =
     one-within (loop + 1) factor n least (loop + 3) NoParts deep (omega (arith, le)) small (omega arith) refl
 first-within loop factor n least (AndParts (Var depth inner) rest) deep top le small h =
-    by_test (depth == loop + 1) (eqb_tells depth (loop + 1))
-  where
-    known : IsVarWithin depth inner n (loop + 2) rest
-    known = var-within depth inner n (loop + 2) rest h
-
-    by_test : (t : Bool) → ((t ≡ true) × (depth ≡ loop + 1)) ⊎ ((t ≡ false) × (depth ≢ loop + 1)) →
-        are_parts_within (if t then AndParts (Var loop inner)
-        (AndParts (Var (loop + 1) factor) rest) else AndParts (Var (loop + 1) factor) (AndParts (Var depth inner) rest))
-        n least ≡ true
-    by_test true (inl e) = pair-within loop inner factor n least rest deep le known.small small (parts-lower rest n (depth + 2) (loop + 3) (omega (arith, e.1)) known.behind)
-    by_test true (inr e) = cc
-    by_test false (inl e) = cc
-    by_test false (inr e) =
-        one-within (loop + 1) factor n least (loop + 3) (AndParts (Var depth inner) rest) deep (omega (arith, le)) small (omega arith)
-        (one-within depth inner n (loop + 3) (depth + 2) rest known.deep (let ne = e.1 in omega (arith, known.ranked, ne)) known.small (omega arith) known.behind)
+    let known = var-within depth inner n (loop + 2) rest h in
+    first_cases (λ parts. are_parts_within parts n least ≡ true) loop factor depth inner rest
+    (λ same.
+    one-within loop inner n least (loop + 2) (AndParts (Var (loop + 1) factor) rest) (omega (arith, deep)) le
+    known.small (omega arith)
+    (one-within (loop + 1) factor n (loop + 2) (loop + 3) rest deep (omega arith) small (omega arith)
+    (parts-lower rest n (depth + 2) (loop + 3) (omega (arith, same)) known.behind)))
+    (λ other.
+    one-within (loop + 1) factor n least (loop + 3) (AndParts (Var depth inner) rest) deep (omega (arith, le)) small
+    (omega arith)
+    (one-within depth inner n (loop + 3) (depth + 2) rest known.deep
+    (let ranked = known.ranked in omega (arith, ranked, other)) known.small (omega arith) known.behind))
 first-within loop factor n least (AndParts (Proc a) rest) deep top le small h =
     let none : loop + 2 ≤ 0 = (part-within (Proc a) n (loop + 2) rest h).ranked in absurd (omega (arith, none))
 first-within loop factor n least (AndParts part rest) deep top le small h =
@@ -131,26 +126,18 @@ parts-within : (loop n least : ℕ) (parts : PlainParts) → loop + 1 < n → n 
     are_parts_within parts n least ≡ true → are_parts_within (exchanged_parts loop parts) n least ≡ true
 parts-within loop n least NoParts deep top ne h = refl
 parts-within loop n least (AndParts (Var depth factor) rest) deep top ne h =
-    by_tests (depth == loop) (depth == loop + 1) (eqb_tells depth loop) (eqb_tells depth (loop + 1))
-    (λ other. parts-within loop n (depth + 2) rest deep top (λ e. other (omega (arith, e))) known.behind)
-  where
-    known : IsVarWithin depth factor n least rest
-    known = var-within depth factor n least rest h
-
-    by_tests : (t u : Bool) → ((t ≡ true) × (depth ≡ loop)) ⊎ ((t ≡ false) × (depth ≢ loop)) →
-        ((u ≡ true) × (depth ≡ loop + 1)) ⊎ ((u ≡ false) × (depth ≢ loop + 1)) →
-        (depth ≢ loop → are_parts_within (exchanged_parts loop rest) n (depth + 2) ≡ true) →
-        are_parts_within (if t then exchanged_first loop factor rest else if u then AndParts (Var loop factor) rest
-        else AndParts (Var depth factor) (exchanged_parts loop rest)) n least ≡ true
-    by_tests true u (inl e) d more =
-        first-within loop factor n least rest deep top (omega (arith, known.ranked, e.1)) known.small (parts-lower rest n (depth + 2) (loop + 2) (omega (arith, e.1)) known.behind)
-    by_tests true u (inr e) d more = cc
-    by_tests false u (inl e) d more = cc
-    by_tests false true (inr e) (inl d) more =
-        one-within loop factor n least (depth + 2) rest (omega (arith, deep)) (omega (arith, known.ranked, d.1, ne)) known.small (omega (arith, d.1)) known.behind
-    by_tests false true (inr e) (inr d) more = cc
-    by_tests false false (inr e) (inl d) more = cc
-    by_tests false false (inr e) (inr d) more = one-within depth factor n least (depth + 2) (exchanged_parts loop rest) known.deep known.ranked known.small (omega arith) (more e.1)
+    let known = var-within depth factor n least rest h in
+    let ranked = known.ranked in
+    parts_cases (λ parts. are_parts_within parts n least ≡ true) loop depth factor rest
+    (λ same.
+    first-within loop factor n least rest deep top (omega (arith, ranked, same)) known.small
+    (parts-lower rest n (depth + 2) (loop + 2) (omega (arith, same)) known.behind))
+    (λ other next.
+    one-within loop factor n least (depth + 2) rest (omega (arith, deep)) (omega (arith, ranked, next, ne)) known.small
+    (omega (arith, next)) known.behind)
+    (λ other farther.
+    one-within depth factor n least (depth + 2) (exchanged_parts loop rest) known.deep ranked known.small (omega arith)
+    (parts-within loop n (depth + 2) rest deep top (λ e. other (omega (arith, e))) known.behind))
 parts-within loop n least (AndParts part rest) deep top ne h =
     let k = part-within part n least rest h in
     part-is part n least (exchanged_parts loop rest)
@@ -162,91 +149,57 @@ parts-within loop n least (AndParts part rest) deep top ne h =
 
 -- ---- counts of parts and of parentheses
 
-first-count : (loop factor : ℕ) (rest : PlainParts) → all_parts (exchanged_first loop factor rest) ≡ 1 + all_parts rest
-first-count loop factor NoParts = refl
-first-count loop factor (AndParts (Var depth inner) rest) = by_test (depth == loop + 1)
-  where
-    by_test : (t : Bool) → all_parts (if t then AndParts (Var loop inner)
-        (AndParts (Var (loop + 1) factor) rest) else AndParts (Var (loop + 1) factor) (AndParts (Var depth inner) rest))
-        ≡ 1 + (1 + all_parts rest)
-    by_test true = refl
-    by_test false = refl
-first-count loop factor (AndParts part rest) = refl
+-- as many parts, and parentheses as deep
+abbrev AreAlike : PlainParts → ℕ → ℕ → Type 0
+AreAlike parts many deep = (all_parts parts ≡ many) × (parts_depth parts ≡ deep)
 
-parts-count : (loop : ℕ) (parts : PlainParts) → all_parts (exchanged_parts loop parts) ≡ all_parts parts
-parts-count loop NoParts = refl
-parts-count loop (AndParts (Var depth factor) rest) = by_tests (depth == loop) (depth == loop + 1) (parts-count loop rest)
-  where
-    by_tests : (t u : Bool) → all_parts (exchanged_parts loop rest) ≡ all_parts rest →
-        all_parts (if t then exchanged_first loop factor rest else if u then AndParts (Var loop factor) rest
-        else AndParts (Var depth factor) (exchanged_parts loop rest)) ≡ 1 + all_parts rest
-    by_tests true u h = first-count loop factor rest
-    by_tests false true h = refl
-    by_tests false false h = ap (λ n. 1 + n) h
-parts-count loop (AndParts part rest) = ap (λ n. part_parts part + n) (parts-count loop rest)
+first-alike : (loop factor : ℕ) (rest : PlainParts) →
+    AreAlike (exchanged_first loop factor rest) (1 + all_parts rest) (max 0 (parts_depth rest))
+first-alike loop factor NoParts = (refl, refl)
+first-alike loop factor (AndParts (Var depth inner) rest) =
+    first_cases (λ parts. AreAlike parts (1 + (1 + all_parts rest)) (max 0 (max 0 (parts_depth rest)))) loop factor
+    depth inner rest (λ same. (refl, refl)) (λ other. (refl, refl))
+first-alike loop factor (AndParts part rest) = (refl, refl)
 
-first-depth : (loop factor : ℕ) (rest : PlainParts) → parts_depth (exchanged_first loop factor rest)
-    ≡ max 0 (parts_depth rest)
-first-depth loop factor NoParts = refl
-first-depth loop factor (AndParts (Var depth inner) rest) = by_test (depth == loop + 1)
-  where
-    by_test : (t : Bool) → parts_depth (if t then AndParts (Var loop inner)
-        (AndParts (Var (loop + 1) factor) rest) else AndParts (Var (loop + 1) factor) (AndParts (Var depth inner) rest))
-        ≡ max 0 (max 0 (parts_depth rest))
-    by_test true = refl
-    by_test false = refl
-first-depth loop factor (AndParts part rest) = refl
-
-parts-depth : (loop : ℕ) (parts : PlainParts) → parts_depth (exchanged_parts loop parts) ≡ parts_depth parts
-parts-depth loop NoParts = refl
-parts-depth loop (AndParts (Var depth factor) rest) = by_tests (depth == loop) (depth == loop + 1) (parts-depth loop rest)
-  where
-    by_tests : (t u : Bool) → parts_depth (exchanged_parts loop rest) ≡ parts_depth rest →
-        parts_depth (if t then exchanged_first loop factor rest else if u then AndParts (Var loop factor) rest
-        else AndParts (Var depth factor) (exchanged_parts loop rest)) ≡ max 0 (parts_depth rest)
-    by_tests true u h = first-depth loop factor rest
-    by_tests false true h = refl
-    by_tests false false h = ap (max 0) h
-parts-depth loop (AndParts part rest) = ap (max (part_depth part)) (parts-depth loop rest)
+parts-alike : (loop : ℕ) (parts : PlainParts) →
+    AreAlike (exchanged_parts loop parts) (all_parts parts) (parts_depth parts)
+parts-alike loop NoParts = (refl, refl)
+parts-alike loop (AndParts (Var depth factor) rest) =
+    let more = parts-alike loop rest in
+    parts_cases (λ parts. AreAlike parts (1 + all_parts rest) (max 0 (parts_depth rest))) loop depth factor rest
+    (λ same. first-alike loop factor rest) (λ other next. (refl, refl))
+    (λ other farther. (ap (λ n. 1 + n) more.0, ap (max 0) more.1))
+parts-alike loop (AndParts part rest) =
+    let more = parts-alike loop rest in (ap (λ n. part_parts part + n) more.0, ap (max (part_depth part)) more.1)
 
 -- ---- statements
 
 place-within : (loop n : ℕ) (place : PlainExpr) → loop + 1 < n → n ≤ 64 → is_expr_within place n ≡ true →
     is_expr_within (exchanged_place loop place) n ≡ true
 place-within loop n (Sum constant parts) deep top h =
-    let within = and_parts (is_small constant && are_parts_within parts n 0) _ h in
-    let sum = and_parts (is_small constant) _ within.0 in
-    let zero_is : 0 ≢ loop + 2 = λ e. omega (arith, e) in
-    and_from (is_small constant && are_parts_within (exchanged_parts loop parts) n 0) _
-    (and_from (is_small constant) _ sum.0 (parts-within loop n 0 parts deep top zero_is sum.1))
-    (ap (λ k. nat_le k 64 && nat_le (parts_depth (exchanged_parts loop parts)) 64) (parts-count loop parts)
-    ∙ (ap (λ k. nat_le (all_parts parts) 64 && nat_le k 64) (parts-depth loop parts) ∙ within.1))
+    let alike = parts-alike loop parts in
+    both_kept (later_kept (is_small constant) (parts-within loop n 0 parts deep top (λ e. omega (arith, e))))
+    (λ few. ap₂ (λ k d. nat_le k 64 && nat_le d 64) alike.0 alike.1 ∙ few) h
 
 op-within : (m loop n : ℕ) (op : PlainOp) → loop + 1 < n → n ≤ 64 → is_op_within m op n ≡ true →
     is_op_within m (exchanged_op loop op) n ≡ true
 op-within m loop n (Load register array place) deep top h =
-    let both = and_parts (is_small register) _ h in
-    and_from (is_small register) _ both.0 (place-within loop n place deep top both.1)
+    later_kept (is_small register) (place-within loop n place deep top) h
 op-within m loop n (Store array place register) deep top h =
-    let both = and_parts (is_small register) _ h in
-    and_from (is_small register) _ both.0 (place-within loop n place deep top both.1)
+    later_kept (is_small register) (place-within loop n place deep top) h
 op-within m loop n (MulTable register source table place step) deep top h =
-    let a = and_parts (is_small register) _ h in
-    let b = and_parts (is_small source) _ a.1 in
-    let c = and_parts (is_small table) _ b.1 in
-    let d = and_parts (nat_lt step 2) _ c.1 in
-    and_from (is_small register) _ a.0 (and_from (is_small source) _ b.0 (and_from (is_small table) _ c.0 (and_from (nat_lt step 2) _ d.0 (place-within loop n place deep top d.1))))
+    later_kept (is_small register)
+    (later_kept (is_small source)
+    (later_kept (is_small table) (later_kept (nat_lt step 2) (place-within loop n place deep top)))) h
 op-within m loop n _ deep top h = h
 
 round-within : (m loop n : ℕ) (round : PlainBody) → loop + 1 < n → n ≤ 64 → is_body_within m round n ≡ true →
     is_body_within m (exchanged_round loop round) n ≡ true
 round-within m loop n NoStmts deep top h = refl
 round-within m loop n (AndStmts (Do op) rest) deep top h =
-    let both = and_parts (is_op_within m op n) _ h in
-    and_from (is_op_within m (exchanged_op loop op) n) _ (op-within m loop n op deep top both.0) (round-within m loop n rest deep top both.1)
+    both_kept (op-within m loop n op deep top) (round-within m loop n rest deep top) h
 round-within m loop n (AndStmts (Loop count body) rest) deep top h =
-    let both = and_parts (is_stmt_within m (Loop count body) n) _ h in
-    and_from (is_stmt_within m (Loop count body) n) _ both.0 (round-within m loop n rest deep top both.1)
+    later_kept (is_stmt_within m (Loop count body) n) (round-within m loop n rest deep top) h
 
 -- what is known of a loop within the limits
 pub record IsLoopWithin (m count depth : ℕ) (body : PlainBody) : Type 0 where
@@ -257,9 +210,8 @@ pub record IsLoopWithin (m count depth : ℕ) (body : PlainBody) : Type 0 where
 pub loop-within : (m count depth : ℕ) (body : PlainBody) → is_stmt_within m (Loop count body) depth ≡ true →
     IsLoopWithin m count depth body
 loop-within m count depth body h =
-    let a = and_parts (is_small_positive count) _ h in
-    let b = and_parts (nat_lt depth 64) _ a.1 in
-    record { small = a.0; deep = ltb-true depth 64 b.0; within = b.1 }
+    let b = three_true (is_small_positive count) (nat_lt depth 64) _ h in
+    record { small = b.0; deep = ltb-true depth 64 b.1; within = b.2 }
 
 pub loop-is : (m count depth : ℕ) (body : PlainBody) → IsLoopWithin m count depth body →
     is_stmt_within m (Loop count body) depth ≡ true
@@ -311,20 +263,20 @@ sunk-within : (m n loop outer : ℕ) (counts : List ℕ) (round : PlainBody) →
     IsNestWithin m n (length counts) (sunk loop outer counts round)
 sunk-within m n loop outer [] round deep top small h = record { small = small; many_are = refl; within = h }
 sunk-within m n loop outer (count ∷ counts) round deep top small h =
-    by_test (steps_less loop (first_load round))
-    (sunk-within m n (loop + 1) outer counts (exchanged_round loop round) (omega (arith, deep)) top (and_from (is_small_positive outer) _ first.0 second.1) (round-within m loop n round (omega (arith, deep)) top h))
-  where
-    first : (is_small_positive outer ≡ true) × (list_all is_small_positive (count ∷ counts) ≡ true)
-    first = and_parts (is_small_positive outer) _ small
-
-    second : (is_small_positive count ≡ true) × (list_all is_small_positive counts ≡ true)
-    second = and_parts (is_small_positive count) _ first.1
-
-    by_test : (t : Bool) → IsNestWithin m n (length counts) (sunk (loop + 1) outer counts (exchanged_round loop round))
-        →
-        IsNestWithin m n (suc (length counts)) (if t then within count (sunk (loop + 1) outer counts (exchanged_round loop round)) else record { outer = outer; inner = count ∷ counts; round = round })
-    by_test true k = record { small = and_from (is_small_positive count) _ second.0 k.small; many_are = ap suc k.many_are; within = k.within }
-    by_test false k = record { small = small; many_are = refl; within = h }
+    let each = three_true (is_small_positive outer) (is_small_positive count) _ small in
+    by_test (IsNestWithin m n (suc (length counts))) (steps_less loop (first_load round))
+    (within count (sunk (loop + 1) outer counts (exchanged_round loop round)))
+    (record { outer = outer; inner = count ∷ counts; round = round })
+    (λ less.
+    let k =
+    sunk-within m n (loop + 1) outer counts (exchanged_round loop round) (omega (arith, deep)) top
+    (and_from (is_small_positive outer) _ each.0 each.2) (round-within m loop n round (omega (arith, deep)) top h) in
+    record {
+      small = and_from (is_small_positive count) _ each.1 k.small;
+      many_are = ap suc k.many_are;
+      within = k.within;
+    })
+    (λ stays. record { small = small; many_are = refl; within = h })
 
 ordered-within : (m n loop outer : ℕ) (counts : List ℕ) (round : PlainBody) → loop + length counts < n → n ≤ 64 →
     list_all is_small_positive (outer ∷ counts) ≡ true → is_body_within m round n ≡ true →
@@ -343,32 +295,44 @@ pub nest-within : (m lanes : ℕ) (stmt : PlainStmt) → is_stmt_within m stmt 0
     is_stmt_within m (interchanged_nest lanes stmt) 0 ≡ true
 nest-within m lanes (Do op) h = h
 nest-within m lanes (Loop count body) h =
-    by_test (are_independent lanes (count ∷ counts_in body) (first_store (round_in body)) (round_in body))
+    by_test (λ stmt. is_stmt_within m stmt 0 ≡ true)
+    (are_independent lanes (count ∷ counts_in body) (first_store (round_in body)) (round_in body))
+    (nest_stmt made) (Loop count body)
+    (λ free.
+    only-within m 0 (nest_stmt made)
+    (looped-is m 0 (made.outer ∷ made.inner) made.round
+    (record {
+      small = turned.small;
+      deep = let deep = known.deep in omega (arith, deep, many);
+      within = ap (λ n. is_body_within m made.round n) (sym same) ∙ turned.within;
+    })))
+    (λ bound. h)
   where
     known : AreLoopsWithin m 0 (count ∷ counts_in body) (round_in body)
-    known = looped-within m 0 (count ∷ counts_in body) (round_in body) (omega arith) (ap (λ b. is_body_within m (AndStmts (Loop count b) NoStmts) 0) (looped_is body) ∙ only-is m 0 (Loop count body) h)
+    known =
+        looped-within m 0 (count ∷ counts_in body) (round_in body) (omega arith)
+        (ap (λ b. is_body_within m (AndStmts (Loop count b) NoStmts) 0) (looped_is body)
+        ∙ only-is m 0 (Loop count body) h)
 
-    turned : IsNestWithin m (0 + length (count ∷ counts_in body)) (length (counts_in body))
-        (ordered 0 count (counts_in body) (round_in body))
-    turned = ordered-within m (0 + length (count ∷ counts_in body)) 0 count (counts_in body) (round_in body) (omega arith) known.deep known.small known.within
+    made : Nest
+    made = ordered 0 count (counts_in body) (round_in body)
 
-    by_test : (t : Bool) →
-        is_stmt_within m (if t then nest_stmt (ordered 0 count (counts_in body) (round_in body)) else Loop count body) 0
-        ≡ true
-    by_test false = h
-    by_test true =
-        let made = ordered 0 count (counts_in body) (round_in body) in
-        let same : 0 + length (count ∷ counts_in body) ≡ 0 + length (made.outer ∷ made.inner) = ap (λ n. 0 + suc n) (sym turned.many_are) in
-        only-within m 0 (nest_stmt made)
-        (looped-is m 0 (made.outer ∷ made.inner) made.round
-        (record { small = turned.small; deep = (let deep = known.deep in let many = turned.many_are in omega (arith, deep, many)); within = ap (λ n. is_body_within m made.round n) (sym same) ∙ turned.within }))
+    turned : IsNestWithin m (0 + length (count ∷ counts_in body)) (length (counts_in body)) made
+    turned =
+        ordered-within m (0 + length (count ∷ counts_in body)) 0 count (counts_in body) (round_in body) (omega arith)
+        known.deep known.small known.within
+
+    many : length made.inner ≡ length (counts_in body)
+    many = turned.many_are
+
+    same : 0 + length (count ∷ counts_in body) ≡ 0 + length (made.outer ∷ made.inner)
+    same = ap (λ n. 0 + suc n) (sym many)
 
 body-within : (m lanes : ℕ) (body : PlainBody) → is_body_within m body 0 ≡ true →
     is_body_within m (interchanged_body lanes body) 0 ≡ true
 body-within m lanes NoStmts h = refl
 body-within m lanes (AndStmts stmt rest) h =
-    let both = and_parts (is_stmt_within m stmt 0) _ h in
-    and_from (is_stmt_within m (interchanged_nest lanes stmt) 0) _ (nest-within m lanes stmt both.0) (body-within m lanes rest both.1)
+    both_kept (nest-within m lanes stmt) (body-within m lanes rest) h
 
 -- the phases of a program whose loops are interchanged stay within the limits
 pub phases-within : (m lanes : ℕ) (phases : List PlainBody) → are_phases_within m phases ≡ true →
@@ -391,8 +355,7 @@ stmt-shallow m (Loop count body) h =
 body-shallow : (m : ℕ) (body : PlainBody) → is_body_within m body 0 ≡ true → are_shallow body ≡ true
 body-shallow m NoStmts h = refl
 body-shallow m (AndStmts stmt rest) h =
-    let both = and_parts (is_stmt_within m stmt 0) _ h in
-    and_from (is_shallow stmt) _ (stmt-shallow m stmt both.0) (body-shallow m rest both.1)
+    both_kept (stmt-shallow m stmt) (body-shallow m rest) h
 
 -- the nests of a program within the limits are shallow
 pub phases-shallow : (m : ℕ) (phases : List PlainBody) → are_phases_within m phases ≡ true →
@@ -402,6 +365,4 @@ phases-shallow m phases h = all phases (and_parts (nat_lt 0 (length phases)) _ h
     all : (bodies : List PlainBody) → list_all (λ b. is_body_within m b 0) bodies ≡ true →
         list_all are_shallow bodies ≡ true
     all [] h = refl
-    all (b ∷ bs) h =
-        let both = and_parts (is_body_within m b 0) _ h in
-        and_from (are_shallow b) _ (body-shallow m b both.0) (all bs both.1)
+    all (b ∷ bs) h = both_kept (body-shallow m b) (all bs) h

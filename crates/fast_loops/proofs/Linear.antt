@@ -1,4 +1,5 @@
 -- Linear places: their values, and the steps of a round where two loops are interchanged.
+use Rattle.fast_loops.proofs.Bools.{three_true, both_kept}
 use Rattle.std.proofs.Common.{◌≡◌, ◌≢◌, ℕ, zero, suc, ◌+◌, ◌*◌, ◌<◌, ◌≤◌, Bool, true, false, not, cond, ◌&&◌, List, []}
 use Rattle.std.proofs.Common.{◌∷◌, ◌++◌, length, refl, sym, ap, ap₂, ◌∙◌, subst, arith, inl, inr, eq-eqb, ne_eqb}
 use Rattle.std.proofs.Common.{leb-true, le-leb, eqb-true}
@@ -8,8 +9,7 @@ use Rattle.icode.specs.Expression.{Numbers, alone, with_part, with_sum, sum_numb
 use Rattle.icode.specs.declared.program.Array.{Array}
 use Rattle.icode.specs.Actions.{Step, step_of, steps_of_body}
 use Rattle.icode.specs.Plain.{PlainExpr, PlainParts, PlainPart, PlainOp, PlainBody, PlainProgram, Sum, NoParts}
-use Rattle.icode.specs.Plain.{AndParts, Proc, Var, Load, Store}
-use Rattle.icode.specs.Plain.{MulTable, Loop, Do, NoStmts, AndStmts}
+use Rattle.icode.specs.Plain.{AndParts, Proc, Var, Load, Store, MulTable, Loop, Do, NoStmts, AndStmts}
 use Rattle.icode.proofs.Bools.{both_true}
 use Rattle.fast_loops.specs.Places.{are_linear, is_linear, stride, same_part, same_parts, exchanged_first}
 use Rattle.fast_loops.specs.Places.{exchanged_parts, exchanged_place, exchanged_op, exchanged_round}
@@ -87,6 +87,35 @@ chosen a b x y e = ap (λ t. cond t x y) (eq-eqb a b e)
 pub passed : {X : Type 0} (a b : ℕ) (x y : X) → a ≢ b → (if a == b then x else y) ≡ y
 passed a b x y e = ap (λ t. cond t x y) (ne_eqb a b e)
 
+-- what holds of either, where it is taken, holds of the one that is
+pub by_equal : {X : Type 0} (P : X → Type 0) (a b : ℕ) (x y : X) → (a ≡ b → P x) → (a ≢ b → P y) →
+    P (if a == b then x else y)
+by_equal P a b x y same other =
+    elim (cases_eq a b) [
+      | inl e ↦ subst P (sym (chosen a b x y e)) (same e)
+      | inr ne ↦ subst P (sym (passed a b x y ne)) (other ne)
+    ]
+
+-- what becomes of a multiple of a loop's value, by which of the loops it is
+pub first_cases : (P : PlainParts → Type 0) (loop factor depth inner : ℕ) (rest : PlainParts) →
+    (depth ≡ loop + 1 → P (AndParts (Var loop inner) (AndParts (Var (loop + 1) factor) rest))) →
+    (depth ≢ loop + 1 → P (AndParts (Var (loop + 1) factor) (AndParts (Var depth inner) rest))) →
+    P (exchanged_first loop factor (AndParts (Var depth inner) rest))
+first_cases P loop factor depth inner rest =
+    by_equal P depth (loop + 1) (AndParts (Var loop inner) (AndParts (Var (loop + 1) factor) rest))
+    (AndParts (Var (loop + 1) factor) (AndParts (Var depth inner) rest))
+
+pub parts_cases : (P : PlainParts → Type 0) (loop depth factor : ℕ) (rest : PlainParts) →
+    (depth ≡ loop → P (exchanged_first loop factor rest)) →
+    (depth ≢ loop → depth ≡ loop + 1 → P (AndParts (Var loop factor) rest)) →
+    (depth ≢ loop → depth ≢ loop + 1 → P (AndParts (Var depth factor) (exchanged_parts loop rest))) →
+    P (exchanged_parts loop (AndParts (Var depth factor) rest))
+parts_cases P loop depth factor rest first second neither =
+    let next : PlainParts = AndParts (Var loop factor) rest in
+    let kept : PlainParts = AndParts (Var depth factor) (exchanged_parts loop rest) in
+    by_equal P depth loop (exchanged_first loop factor rest) (if depth == loop + 1 then next else kept) first
+    (λ other. by_equal P depth (loop + 1) next kept (second other) (neither other))
+
 -- the processor's part stands before those of the loops' values
 pub proc_first : (least factor : ℕ) (rest : PlainParts) → are_linear least (AndParts (Proc factor) rest) ≡ true →
     (least ≡ 0) × (are_linear least rest ≡ true)
@@ -102,18 +131,23 @@ stride_before least loop (AndParts (Var depth factor) rest) h before =
     passed depth loop factor (stride loop rest) (λ e. omega (arith, two.0)) ∙ stride_before (depth + 1) loop rest two.1 (omega (arith, two.0))
 stride_before least loop (AndParts part rest) h before = wrong h
 
--- parts of deeper loops alone
-deeper : (least loop : ℕ) (parts : PlainParts) (ws us : List ℕ) (q : ℕ) → are_linear least parts ≡ true →
-    loop + 1 < least → Agree loop ws us →
-    parts_numbers parts us q ≡ parts_numbers parts ws q
-deeper least loop NoParts ws us q h before agree = refl
-deeper least loop (AndParts (Proc factor) rest) ws us q h before agree = ap (with_part (alone (q * factor))) (deeper least loop rest ws us q (proc_first least factor rest h).1 before agree)
-deeper least loop (AndParts (Var depth factor) rest) ws us q h before agree =
+-- parts of deeper loops alone, whose values agree
+pub from_depth : (least : ℕ) (parts : PlainParts) (ws us : List ℕ) (q : ℕ) → are_linear least parts ≡ true →
+    ((d : ℕ) → least ≤ d → slice_index us d ≡ slice_index ws d) → parts_numbers parts us q ≡ parts_numbers parts ws q
+from_depth least NoParts ws us q h same = refl
+from_depth least (AndParts (Proc factor) rest) ws us q h same =
+    ap (with_part (alone (q * factor))) (from_depth least rest ws us q (proc_first least factor rest h).1 same)
+from_depth least (AndParts (Var depth factor) rest) ws us q h same =
     let two = from_least least depth _ h in
-    ap₂ with_part
-    (ap (λ v. alone (v * factor)) (agree.others depth (λ e. omega (arith, two.0)) (λ e. omega (arith, two.0))))
-    (deeper (depth + 1) loop rest ws us q two.1 (omega (arith, two.0)) agree)
-deeper least loop (AndParts part rest) ws us q h before agree = wrong h
+    ap₂ with_part (ap (λ v. alone (v * factor)) (same depth two.0))
+    (from_depth (depth + 1) rest ws us q two.1 (λ d le. same d (omega (arith, le, two.0))))
+from_depth least (AndParts part rest) ws us q h same = wrong h
+
+deeper : (least loop : ℕ) (parts : PlainParts) (ws us : List ℕ) (q : ℕ) → are_linear least parts ≡ true →
+    loop + 1 < least → Agree loop ws us → parts_numbers parts us q ≡ parts_numbers parts ws q
+deeper least loop parts ws us q h before agree =
+    from_depth least parts ws us q h (λ d le.
+    agree.others d (λ e. omega (arith, e, le, before)) (λ e. omega (arith, e, le, before)))
 
 -- where the loop's multiple stands in front
 exchanged-first : (loop factor : ℕ) (rest : PlainParts) (ws us : List ℕ) (q : ℕ) → are_linear (loop + 1) rest ≡ true →
@@ -124,25 +158,22 @@ exchanged-first loop factor NoParts ws us q h is = ap (λ v. with_part (alone (v
 exchanged-first loop factor (AndParts (Proc other) rest) ws us q h is = absurd (omega (arith, (proc_first (loop + 1) other rest h).0))
 exchanged-first loop factor (AndParts (Var depth inner) rest) ws us q h is =
     let two = from_least (loop + 1) depth _ h in
-    let swapped : PlainParts = AndParts (Var loop inner) (AndParts (Var (loop + 1) factor) rest) in
-    let kept : PlainParts = AndParts (Var (loop + 1) factor) (AndParts (Var depth inner) rest) in
-    elim (cases_eq depth (loop + 1)) [
-      | inl same ↦
-          ap (λ parts. parts_numbers parts us q) (chosen depth (loop + 1) swapped kept same)
-          ∙ turned (alone (slice_index us loop * inner)) (alone (slice_index us (loop + 1) * factor)) (parts_numbers rest us q)
-          ∙ ap₂ with_part
-          (ap (λ v. alone (v * factor)) is.second)
-          (ap₂ with_part
-          (ap (λ v. alone (v * inner)) (is.first ∙ ap (slice_index ws) (sym same)))
-          (deeper (depth + 1) loop rest ws us q two.1 (omega arith) is.agree))
-      | inr other ↦
-          ap (λ parts. parts_numbers parts us q) (passed depth (loop + 1) swapped kept other)
-          ∙ ap₂ with_part
-          (ap (λ v. alone (v * factor)) is.second)
-          (ap₂ with_part
-          (ap (λ v. alone (v * inner)) (is.agree.others depth (λ e. omega (arith, two.0)) other))
-          (deeper (depth + 1) loop rest ws us q two.1 (omega (arith, two.0, other)) is.agree))
-    ]
+    let old : Numbers =
+    with_part (alone (slice_index ws loop * factor)) (parts_numbers (AndParts (Var depth inner) rest) ws q) in
+    first_cases (λ parts. parts_numbers parts us q ≡ old) loop factor depth inner rest
+    (λ same.
+    turned (alone (slice_index us loop * inner)) (alone (slice_index us (loop + 1) * factor)) (parts_numbers rest us q)
+    ∙ ap₂ with_part
+    (ap (λ v. alone (v * factor)) is.second)
+    (ap₂ with_part
+    (ap (λ v. alone (v * inner)) (is.first ∙ ap (slice_index ws) (sym same)))
+    (deeper (depth + 1) loop rest ws us q two.1 (omega (arith, same)) is.agree)))
+    (λ other.
+    ap₂ with_part
+    (ap (λ v. alone (v * factor)) is.second)
+    (ap₂ with_part
+    (ap (λ v. alone (v * inner)) (is.agree.others depth (λ e. omega (arith, two.0)) other))
+    (deeper (depth + 1) loop rest ws us q two.1 (omega (arith, two.0, other)) is.agree)))
 exchanged-first loop factor (AndParts part rest) ws us q h is = wrong h
 
 -- parts of an exchanged round have the numbers that they had
@@ -154,30 +185,19 @@ exchanged-numbers least loop (AndParts (Proc factor) rest) ws us q h is =
     ap (with_part (alone (q * factor))) (exchanged-numbers least loop rest ws us q (proc_first least factor rest h).1 is)
 exchanged-numbers least loop (AndParts (Var depth factor) rest) ws us q h is =
     let two = from_least least depth _ h in
-    let first : PlainParts = exchanged_first loop factor rest in
-    let second : PlainParts = AndParts (Var loop factor) rest in
-    let neither : PlainParts = AndParts (Var depth factor) (exchanged_parts loop rest) in
-    let later : PlainParts = if depth == loop + 1 then second else neither in
-    elim (cases_eq depth loop) [
-      | inl same ↦
-          ap (λ parts. parts_numbers parts us q) (chosen depth loop first later same)
-          ∙ exchanged-first loop factor rest ws us q (subst (λ d. are_linear (d + 1) rest ≡ true) same two.1) is
-          ∙ ap (λ d. with_part (alone (slice_index ws d * factor)) (parts_numbers rest ws q)) (sym same)
-      | inr other ↦
-          ap (λ parts. parts_numbers parts us q) (passed depth loop first later other)
-          ∙ elim (cases_eq depth (loop + 1)) [
-            | inl next ↦
-                ap (λ parts. parts_numbers parts us q) (chosen depth (loop + 1) second neither next)
-                ∙ ap₂ with_part
-                (ap (λ v. alone (v * factor)) (is.first ∙ ap (slice_index ws) (sym next)))
-                (deeper (depth + 1) loop rest ws us q two.1 (omega arith) is.agree)
-            | inr farther ↦
-                ap (λ parts. parts_numbers parts us q) (passed depth (loop + 1) second neither farther)
-                ∙ ap₂ with_part
-                (ap (λ v. alone (v * factor)) (is.agree.others depth other farther))
-                (exchanged-numbers (depth + 1) loop rest ws us q two.1 is)
-          ]
-    ]
+    parts_cases (λ parts. parts_numbers parts us q ≡ parts_numbers (AndParts (Var depth factor) rest) ws q) loop depth
+    factor rest
+    (λ same.
+    exchanged-first loop factor rest ws us q (subst (λ d. are_linear (d + 1) rest ≡ true) same two.1) is
+    ∙ ap (λ d. with_part (alone (slice_index ws d * factor)) (parts_numbers rest ws q)) (sym same))
+    (λ other next.
+    ap₂ with_part
+    (ap (λ v. alone (v * factor)) (is.first ∙ ap (slice_index ws) (sym next)))
+    (deeper (depth + 1) loop rest ws us q two.1 (omega (arith, next)) is.agree))
+    (λ other farther.
+    ap₂ with_part
+    (ap (λ v. alone (v * factor)) (is.agree.others depth other farther))
+    (exchanged-numbers (depth + 1) loop rest ws us q two.1 is))
 exchanged-numbers least loop (AndParts part rest) ws us q h is = wrong h
 
 -- a place of an exchanged round is the place that it was
@@ -209,9 +229,8 @@ pub record StoreTold (lanes : ℕ) (to : Stored) (array : Array) (constant : ℕ
 pub store_told : (lanes : ℕ) (to : Stored) (step : ℕ) (array : Array) (constant : ℕ) (parts : PlainParts) (r : ℕ) →
     is_placed lanes to step (Store array (Sum constant parts) r) ≡ true → StoreTold lanes to array constant parts step
 store_told lanes to step array constant parts r h =
-    let two = both_true (same_array array to.array) _ h in
-    let both = both_true (same_parts parts to.parts) (nat_le (constant + lanes) step) two.1 in
-    record { into = two.0; by = parts_equal parts to.parts both.0; low = leb-true (constant + lanes) step both.1 }
+    let both = three_true (same_array array to.array) (same_parts parts to.parts) (nat_le (constant + lanes) step) h in
+    record { into = both.0; by = parts_equal parts to.parts both.1; low = leb-true (constant + lanes) step both.2 }
 
 -- ---- statements whose places are linear
 
@@ -242,8 +261,7 @@ pub placed_linear : (lanes : ℕ) (to : Stored) (step : ℕ) (body : PlainBody) 
     has_linear_places body ≡ true
 placed_linear lanes to step NoStmts linear h = refl
 placed_linear lanes to step (AndStmts (Do op) rest) linear h =
-    let two = both_true (is_placed lanes to step op) (are_placed lanes to step rest) h in
-    and_from (has_linear_place op) (has_linear_places rest) (placed-linear lanes to step op linear two.0) (placed_linear lanes to step rest linear two.1)
+    both_kept (placed-linear lanes to step op linear) (placed_linear lanes to step rest linear) h
 placed_linear lanes to step (AndStmts (Loop count body) rest) linear h = wrong h
 
 -- ---- exchanged places are linear
@@ -265,19 +283,15 @@ first-linear least loop factor NoParts within h = and_from (nat_le least (loop +
 first-linear least loop factor (AndParts (Proc other) rest) within h = absurd (omega (arith, (proc_first (loop + 1) other rest h).0))
 first-linear least loop factor (AndParts (Var depth inner) rest) within h =
     let two = from_least (loop + 1) depth _ h in
-    let swapped : PlainParts = AndParts (Var loop inner) (AndParts (Var (loop + 1) factor) rest) in
-    let kept : PlainParts = AndParts (Var (loop + 1) factor) (AndParts (Var depth inner) rest) in
-    elim (cases_eq depth (loop + 1)) [
-      | inl same ↦
-          ap (are_linear least) (chosen depth (loop + 1) swapped kept same)
-          ∙ and_from (nat_le least loop) _ (le-leb least loop within)
-          (and_from (nat_le (loop + 1) (loop + 1)) (are_linear (loop + 1 + 1) rest) (le-leb (loop + 1) (loop + 1) (omega arith))
-          (subst (λ d. are_linear (d + 1) rest ≡ true) same two.1))
-      | inr other ↦
-          ap (are_linear least) (passed depth (loop + 1) swapped kept other)
-          ∙ and_from (nat_le least (loop + 1)) _ (le-leb least (loop + 1) (omega arith))
-          (and_from (nat_le (loop + 1 + 1) depth) (are_linear (depth + 1) rest) (le-leb (loop + 1 + 1) depth (omega (arith, two.0, other))) two.1)
-    ]
+    first_cases (λ parts. are_linear least parts ≡ true) loop factor depth inner rest
+    (λ same.
+    and_from (nat_le least loop) _ (le-leb least loop within)
+    (and_from (nat_le (loop + 1) (loop + 1)) (are_linear (loop + 1 + 1) rest)
+    (le-leb (loop + 1) (loop + 1) (omega arith)) (subst (λ d. are_linear (d + 1) rest ≡ true) same two.1)))
+    (λ other.
+    and_from (nat_le least (loop + 1)) _ (le-leb least (loop + 1) (omega arith))
+    (and_from (nat_le (loop + 1 + 1) depth) (are_linear (depth + 1) rest)
+    (le-leb (loop + 1 + 1) depth (omega (arith, two.0, other))) two.1))
 first-linear least loop factor (AndParts part rest) within h = wrong h
 
 parts-linear : (least loop : ℕ) (parts : PlainParts) → least ≢ loop + 1 → are_linear least parts ≡ true →
@@ -288,27 +302,16 @@ parts-linear least loop (AndParts (Proc factor) rest) far h =
     and_from (least == 0) _ (eq-eqb least 0 two.0) (parts-linear least loop rest far two.1)
 parts-linear least loop (AndParts (Var depth factor) rest) far h =
     let two = from_least least depth _ h in
-    let first : PlainParts = exchanged_first loop factor rest in
-    let second : PlainParts = AndParts (Var loop factor) rest in
-    let neither : PlainParts = AndParts (Var depth factor) (exchanged_parts loop rest) in
-    let later : PlainParts = if depth == loop + 1 then second else neither in
-    elim (cases_eq depth loop) [
-      | inl same ↦
-          ap (are_linear least) (chosen depth loop first later same)
-          ∙ first-linear least loop factor rest (omega (arith, two.0, same)) (subst (λ d. are_linear (d + 1) rest ≡ true) same two.1)
-      | inr other ↦
-          ap (are_linear least) (passed depth loop first later other)
-          ∙ elim (cases_eq depth (loop + 1)) [
-            | inl next ↦
-                ap (are_linear least) (chosen depth (loop + 1) second neither next)
-                ∙ and_from (nat_le least loop) (are_linear (loop + 1) rest) (le-leb least loop (omega (arith, two.0, next, far)))
-                (lower (depth + 1) (loop + 1) rest (omega (arith, next)) two.1)
-            | inr farther ↦
-                ap (are_linear least) (passed depth (loop + 1) second neither farther)
-                ∙ and_from (nat_le least depth) _ (le-leb least depth two.0)
-                (parts-linear (depth + 1) loop rest (λ e. other (omega (arith, e))) two.1)
-          ]
-    ]
+    parts_cases (λ parts. are_linear least parts ≡ true) loop depth factor rest
+    (λ same.
+    first-linear least loop factor rest (omega (arith, two.0, same))
+    (subst (λ d. are_linear (d + 1) rest ≡ true) same two.1))
+    (λ other next.
+    and_from (nat_le least loop) (are_linear (loop + 1) rest) (le-leb least loop (omega (arith, two.0, next, far)))
+    (lower (depth + 1) (loop + 1) rest (omega (arith, next)) two.1))
+    (λ other farther.
+    and_from (nat_le least depth) _ (le-leb least depth two.0)
+    (parts-linear (depth + 1) loop rest (λ e. other (omega (arith, e))) two.1))
 parts-linear least loop (AndParts part rest) far h = wrong h
 
 place-linear : (loop : ℕ) (place : PlainExpr) → is_linear place ≡ true → is_linear (exchanged_place loop place) ≡ true
@@ -325,8 +328,7 @@ pub linear_exchanged : (loop : ℕ) (body : PlainBody) → has_linear_places bod
     has_linear_places (exchanged_round loop body) ≡ true
 linear_exchanged loop NoStmts h = refl
 linear_exchanged loop (AndStmts (Do op) rest) h =
-    let two = both_true (has_linear_place op) (has_linear_places rest) h in
-    and_from (has_linear_place (exchanged_op loop op)) _ (op-linear loop op two.0) (linear_exchanged loop rest two.1)
+    both_kept (op-linear loop op) (linear_exchanged loop rest) h
 linear_exchanged loop (AndStmts (Loop count body) rest) h = wrong h
 
 -- ---- exchanged rounds

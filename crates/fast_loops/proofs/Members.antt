@@ -15,9 +15,6 @@ module _ {X : Type 0} where
   pub all_of_members : (P : X → Type 0) (xs : List X) → ((x : X) → Contains xs x → P x) → All P xs
   all_of_members P xs each k d lt = each _ (Contains-get_or xs k d lt)
 
-  tail_within : (x : X) (xs zs : List X) → IsWithin (x ∷ xs) zs → IsWithin xs zs
-  tail_within x xs zs within y h = within y (Contains-tail x xs y h)
-
   pub append_within : (xs zs ys ws : List X) → IsWithin xs zs → IsWithin ys ws → IsWithin (xs ++ ys) (zs ++ ws)
   append_within xs zs ys ws first second x h =
       ⊎_elim
@@ -30,7 +27,8 @@ module _ {X : Type 0} where
   map_within f [] zs within y h = absurd (Contains-nil y h)
   map_within f (x ∷ xs) zs within y (zero, lt, e) =
       subst (λ w. Contains (map f zs) w) e (Contains-map f zs x (within x (Contains-head x xs)))
-  map_within f (x ∷ xs) zs within y (suc k, lt, e) = map_within f xs zs (tail_within x xs zs within) y (k, omega arith, e)
+  map_within f (x ∷ xs) zs within y (suc k, lt, e) =
+      map_within f xs zs (λ z h. within z (Contains-tail x xs z h)) y (k, omega arith, e)
 
   pub into_flat_map : {Y : Type 0} (f : X → List Y) (zs : List X) (x : X) (y : Y) → Contains zs x → Contains (f x) y →
       Contains (flat_map f zs) y

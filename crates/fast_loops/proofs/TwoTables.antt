@@ -1,14 +1,8 @@
-pub mod Bodies
 pub mod Cutting
-pub mod Dividing
 pub mod Law
 pub mod Listed
-pub mod Made
-pub mod Placed
 pub mod Products
 pub mod Programs
 pub mod Pushed
 pub mod Registers
-pub mod Replaced
-pub mod Walked
 pub mod Within

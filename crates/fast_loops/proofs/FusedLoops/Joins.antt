@@ -1,8 +1,8 @@
 -- A nest that goes into the loops of others, whose blocks it shares: it does what it did after them.
-use Rattle.std.proofs.Common.{◌≡◌, ℕ, zero, suc, ◌+◌, ◌*◌, ◌<◌, Bool, true, false, ◌&&◌, List, [], ◌∷◌, ◌++◌}
-use Rattle.std.proofs.Common.{Contains, flat_map, length, refl, sym, ap, ap₂, ◌∙◌, subst, arith, eqb-true, ⊎_elim}
-use Rattle.std.proofs.Common.{append-nil, append_assoc, length-append}
-use Rattle.std.specs.Prelude.{◌==◌, if◌then◌else◌}
+use Rattle.std.proofs.Common.{◌≡◌, ℕ, zero, suc, ◌+◌, ◌*◌, ◌<◌, true, ◌&&◌, List, [], ◌∷◌, ◌++◌, Contains, flat_map}
+use Rattle.std.proofs.Common.{length, refl, sym, ap, ap₂, ◌∙◌, subst, arith, eqb-true, ⊎_elim, append-nil, append_assoc}
+use Rattle.std.proofs.Common.{length-append}
+use Rattle.std.specs.Prelude.{◌==◌}
 use Rattle.std.specs.List.{range_with_len}
 use Rattle.std.proofs.Math.Path.{fun_ext}
 use Rattle.std.proofs.lemmas.List.Elements.{Contains-append_left, Contains-append_right, Contains-append_cases}
@@ -22,12 +22,12 @@ use Rattle.fast_loops.specs.Rounds.{are_fresh}
 use Rattle.fast_loops.specs.FusedLoops.Blocks.{shared}
 use Rattle.fast_loops.specs.FusedLoops.FusedLoops.{put_behind, in_last, all_joined}
 use Rattle.fast_loops.proofs.Acts.{DoTheSame, memory_by}
-use Rattle.fast_loops.proofs.Changes.{actions_of-append, actions_of-loop, in-loop, of-loop, for-trans}
-use Rattle.fast_loops.proofs.Folds.{IsSure, Commute, parted}
-use Rattle.fast_loops.proofs.Looped.{looped_is}
+use Rattle.fast_loops.proofs.Bools.{by_test}
+use Rattle.fast_loops.proofs.Rows.{actions_of-append, actions_of-loop, in-loop, of-loop, for-trans, For, acts_of, rows}
+use Rattle.fast_loops.proofs.Rows.{round_acts, loops_for, past_rows, rows_sure}
+use Rattle.fast_loops.proofs.Swaps.{IsSure, Commute, parted, same-append}
+use Rattle.fast_loops.proofs.Counts.{looped_is}
 use Rattle.fast_loops.proofs.Members.{append_within}
-use Rattle.fast_loops.proofs.Rows.{For, acts_of, rows, round_acts, loops_for, past_rows, rows_sure}
-use Rattle.fast_loops.proofs.Same.{same-append}
 use Rattle.fast_loops.proofs.FusedLoops.Blocks.{AreRoundsInside, HasBlocks}
 use Rattle.fast_loops.proofs.FusedLoops.Steps.{EndsIn, ends-put, ends-changed, put-all, parted_last}
 use Rattle.fast_loops.proofs.FusedLoops.Within.{IsWithin, IsInside, within-round, within-append, within-loop}
@@ -97,11 +97,6 @@ module _ (p : PlainProgram) (q : ℕ) where
             ∙ sym (ap (λ fs. memory_by p.modulus p.lanes fs r memory) (actions_of-append ys zs));
         members = append_within xs ys zs zs h.members (λ s has. has);
       }
-
-  -- whatever stands in the registers
-  from-sure : (xs ys : List Step) → LeavesFor xs ys → Sure ys → For p q xs ys
-  from-sure xs ys h sure =
-      record { same = λ r s memory long. h.same r memory ∙ sure r s memory long; members = h.members }
 
   pub sure-append : (xs ys : List Step) → Sure xs → Sure ys → Sure (xs ++ ys)
   sure-append xs ys one other =
@@ -204,17 +199,6 @@ module _ (p : PlainProgram) (q : ℕ) where
         ),
   )
 
-  put-ends : (count : ℕ) (inside made : PlainBody) (block : Block) (blocks : List Block) (vs : List ℕ) (base : ℕ) →
-      are_fresh p.lanes 0 (round_in inside) ≡ true →
-      HasBlocks p q (block ∷ blocks) (AndStmts (Loop count inside) NoStmts) vs base →
-      Ends (block ∷ blocks) (put_behind (Loop count inside) made) vs base
-  put-ends count inside made block blocks vs base fresh h =
-      let end = nest-ends (AndStmts (Loop count inside) NoStmts) (block ∷ blocks) vs base fresh h in (
-        end.0,
-        subst (λ s. EndsIn block.count end.0 (put_behind s made)) (sym end.1) (ends-put block.count end.0 made),
-        end.2,
-      )
-
   -- ---- a nest goes after others
 
   -- it does what it did, and stands at the end
@@ -235,7 +219,12 @@ module _ (p : PlainProgram) (q : ℕ) where
       at_end NoStmts (block ∷ blocks) fresh h = absurd h
       at_end (AndStmts (Do op) rest) (block ∷ blocks) fresh h = absurd h
       at_end (AndStmts (Loop count inside) (AndStmts stmt rest)) (block ∷ blocks) fresh h = absurd h
-      at_end (AndStmts (Loop count inside) NoStmts) (block ∷ blocks) fresh h = put-ends count inside made block blocks vs base fresh h
+      at_end (AndStmts (Loop count inside) NoStmts) (block ∷ blocks) fresh h =
+          let end = nest-ends (AndStmts (Loop count inside) NoStmts) (block ∷ blocks) vs base fresh h in (
+            end.0,
+            subst (λ s. EndsIn block.count end.0 (put_behind s made)) (sym end.1) (ends-put block.count end.0 made),
+            end.2,
+          )
 
   -- into the last loop, which has the same block
   module _ (n : ℕ) (block : Block) (bs cs : List Block) (inner made : PlainBody) (vs : List ℕ) (base : ℕ) (fresh : are_fresh p.lanes 0 (round_in inner) ≡ true)
@@ -262,8 +251,9 @@ module _ (p : PlainProgram) (q : ℕ) where
 
     each : (i : ℕ) → i < block.count → For p q (new i) (old i ++ added i)
     each i lt =
-        from-sure (new i) (old i ++ added i) (grown i lt).leaves
-        (sure-append (old i) (added i) (end.2 i lt).0.sure (body-sure inner (vs ++ i ∷ []) fresh))
+        let leaves = (grown i lt).leaves in
+        let sure = sure-append (old i) (added i) (end.2 i lt).0.sure (body-sure inner (vs ++ i ∷ []) fresh) in
+        record { same = λ r s memory long. leaves.same r memory ∙ sure r s memory long; members = leaves.members }
 
     abbrev rounds : List ℕ
     rounds = range_with_len 0 block.count
@@ -325,11 +315,6 @@ module _ (p : PlainProgram) (q : ℕ) where
           );
         }
 
-  same-block : (b c : Block) → (b.count == c.count) ≡ true → (b.step == c.step) ≡ true → b ≡ c
-  same-block b c one other =
-      let made : ℕ → ℕ → Block = λ n s. record { count = n; step = s } in
-      ap₂ made (eqb-true b.count c.count one) (eqb-true b.step c.step other)
-
   none-shared : (bs : List Block) → shared bs [] ≡ 0
   none-shared [] = refl
   none-shared (b ∷ bs) = refl
@@ -344,21 +329,16 @@ module _ (p : PlainProgram) (q : ℕ) where
   grows (AndStmts (Do op) rest) (b ∷ bs) (c ∷ cs) made vs base fresh end has = absurd has
   grows (AndStmts (Loop count inner) (AndStmts stmt rest)) (b ∷ bs) (c ∷ cs) made vs base fresh end has = absurd has
   grows (AndStmts (Loop count inner) NoStmts) (b ∷ bs) (c ∷ cs) made vs base fresh end has =
-      of_test (λ i inside end_in has_in. grows inner bs cs inside (vs ++ i ∷ []) (base + i * c.step) fresh end_in has_in) ((b.count == c.count) && (b.step == c.step)) refl
-    where
-      body : PlainBody
-      body = AndStmts (Loop count inner) NoStmts
-
-      of_test : ((i : ℕ) (inside : PlainBody) → Ends bs inside (vs ++ i ∷ []) (base + i * c.step) →
-          HasBlocks p q cs inner (vs ++ i ∷ []) (base + i * c.step) →
-          IsGrown (shared bs cs) inner cs inside (vs ++ i ∷ []) (base + i * c.step)) →
-          (t : Bool) → ((b.count == c.count) && (b.step == c.step)) ≡ t →
-          IsGrown (if t then suc (shared bs cs) else 0) body (c ∷ cs) made vs base
-      of_test deeper false e = put-grown body (c ∷ cs) made vs base fresh has
-      of_test deeper true e =
-          let two = both_true (b.count == c.count) (b.step == c.step) e in
-          let end_too : Ends (c ∷ bs) made vs base = subst (λ x. Ends (x ∷ bs) made vs base) (same-block b c two.0 two.1) end in
-          subst (λ n. IsGrown (suc (shared bs cs)) (AndStmts (Loop n inner) NoStmts) (c ∷ cs) made vs base) (sym has.0)
-          (into-grown (shared bs cs) c bs cs inner made vs base fresh end_too
-          (subst (λ n. HasBlocks p q (c ∷ cs) (AndStmts (Loop n inner) NoStmts) vs base) has.0 has)
-          (λ i lt inside end_in has_in. deeper i inside end_in has_in))
+      let body : PlainBody = AndStmts (Loop count inner) NoStmts in
+      by_test (λ n. IsGrown n body (c ∷ cs) made vs base) ((b.count == c.count) && (b.step == c.step))
+      (suc (shared bs cs)) 0
+      (λ e.
+      let two = both_true (b.count == c.count) (b.step == c.step) e in
+      let block : ℕ → ℕ → Block = λ n s. record { count = n; step = s } in
+      let same : b ≡ c = ap₂ block (eqb-true b.count c.count two.0) (eqb-true b.step c.step two.1) in
+      let end_too : Ends (c ∷ bs) made vs base = subst (λ x. Ends (x ∷ bs) made vs base) same end in
+      subst (λ n. IsGrown (suc (shared bs cs)) (AndStmts (Loop n inner) NoStmts) (c ∷ cs) made vs base) (sym has.0)
+      (into-grown (shared bs cs) c bs cs inner made vs base fresh end_too
+      (subst (λ n. HasBlocks p q (c ∷ cs) (AndStmts (Loop n inner) NoStmts) vs base) has.0 has)
+      (λ i lt inside end_in has_in. grows inner bs cs inside (vs ++ i ∷ []) (base + i * c.step) fresh end_in has_in)))
+      (λ e. put-grown body (c ∷ cs) made vs base fresh has)

@@ -1,33 +1,99 @@
--- A program whose nests are fused leaves what it left.
-use Rattle.std.proofs.Common.{◌≡◌, ℕ, suc, ◌<◌, ◌&&◌, List, [], ◌∷◌, ◌++◌, Bool, true, false, Contains, map}
-use Rattle.std.proofs.Common.{length, refl, sym, ap, ◌∙◌, subst, arith, append-nil, append_assoc, eqb-true}
-use Rattle.std.specs.Prelude.{◌==◌, nat_le, slice_index_or, if◌then◌else◌}
+-- A program whose nests are fused is within the limits of programs, and leaves what it left.
+use Rattle.fast_loops.proofs.Bools.{three_true, both_kept, later_kept, by_test}
+use Rattle.std.proofs.Common.{◌≡◌, ℕ, zero, suc, ◌+◌, List, [], ◌∷◌, true, refl, ◌<◌, ◌&&◌, ◌++◌, Contains, map, length}
+use Rattle.std.proofs.Common.{sym, ap, ◌∙◌, subst, arith, append-nil, append_assoc, eqb-true}
+use Rattle.std.specs.Prelude.{nat_lt, ◌==◌, nat_le, slice_index_or}
+use Rattle.std.proofs.lemmas.Bool.{and_from}
+use Rattle.icode.specs.Limits.{is_small_positive, is_stmt_within, is_body_within, are_phases_within}
+use Rattle.icode.specs.Plain.{PlainStmt, PlainBody, Loop, Do, NoStmts, AndStmts, PlainProgram}
+use Rattle.icode.proofs.Bools.{both_true}
+use Rattle.fast_loops.specs.declared.fused_loops.blocks.Block.{Block}
+use Rattle.fast_loops.specs.FusedLoops.Blocks.{blocks_of, shared, first_steps, followed_in}
+use Rattle.fast_loops.specs.FusedLoops.FusedLoops.{put_behind, with_body, in_last, joined, all_joined, waiting}
+use Rattle.fast_loops.specs.FusedLoops.FusedLoops.{fused_onto, fused_phases, fused_phase, may_be_fused, fused}
 use Rattle.std.proofs.lemmas.List.{length-map}
 use Rattle.std.proofs.lemmas.List.Elements.{All-contains, Contains-append_left, Contains-append_right}
 use Rattle.icode.specs.Actions.{Step, StepFits, PlainFits, actions_of, plain_code, steps_of_stmt, steps_of_body}
 use Rattle.icode.specs.Actions.{steps_of_phase}
 use Rattle.icode.specs.Machine.{Code, IsApart, acts, in_order, phases_alone, processors_alone, start, Whole}
-use Rattle.icode.specs.Plain.{PlainStmt, PlainBody, PlainProgram, Loop, Do, NoStmts, AndStmts}
-use Rattle.icode.proofs.Bools.{both_true}
-use Rattle.fast_loops.specs.declared.fused_loops.blocks.Block.{Block}
 use Rattle.fast_loops.specs.Interchange.{counts_in, round_in, is_nest, are_nests}
 use Rattle.fast_loops.specs.Rounds.{first_load}
-use Rattle.fast_loops.specs.FusedLoops.Blocks.{first_steps, followed_in, blocks_of, shared}
-use Rattle.fast_loops.specs.FusedLoops.FusedLoops.{put_behind, joined, waiting, fused_onto, fused_phase, fused_phases}
-use Rattle.fast_loops.specs.FusedLoops.FusedLoops.{may_be_fused, fused}
 use Rattle.fast_loops.specs.TwoTables.Laws.{IsInPlaceOf}
 use Rattle.fast_loops.proofs.Acts.{memory_by}
-use Rattle.fast_loops.proofs.Folds.{IsSure}
-use Rattle.fast_loops.proofs.InPlace.{of-members, no-more, in-place, itself, where-true}
+use Rattle.fast_loops.proofs.Swaps.{IsSure, same-nothing}
+use Rattle.fast_loops.proofs.InPlace.{of-members, no-more, in-place, itself, where-true, with_phases, phase-is, row}
+use Rattle.fast_loops.proofs.InPlace.{listed}
 use Rattle.fast_loops.proofs.Linear.{wrong}
-use Rattle.fast_loops.proofs.Phases.{with_phases, phase-is, row, listed}
 use Rattle.fast_loops.proofs.Rows.{StepsFit}
-use Rattle.fast_loops.proofs.Same.{same-nothing}
-use Rattle.fast_loops.proofs.FusedLoops.Blocks.{has-blocks}
-use Rattle.fast_loops.proofs.FusedLoops.Follows.{round-follows}
+use Rattle.fast_loops.proofs.FusedLoops.Blocks.{has-blocks, round-keeps}
 use Rattle.fast_loops.proofs.FusedLoops.Joins.{LeavesFor, Ends, body-sure, grows, leaves-behind, leaves-itself}
 use Rattle.fast_loops.proofs.FusedLoops.Joins.{leaves-trans, sure-append}
 use Rattle.fast_loops.proofs.FusedLoops.Steps.{put-steps}
+
+module _ (m : ℕ) where
+  put-within : (stmt : PlainStmt) (body : PlainBody) (depth : ℕ) → is_stmt_within m stmt depth ≡ true →
+      is_body_within m body depth ≡ true →
+      is_body_within m (put_behind stmt body) depth ≡ true
+  put-within stmt NoStmts depth h k = and_from (is_stmt_within m stmt depth) true h refl
+  put-within stmt (AndStmts first rest) depth h k =
+      later_kept (is_stmt_within m first depth) (put-within stmt rest depth h) k
+
+  -- a change that keeps the limits in a loop
+  module _ (f : PlainBody → PlainBody) (depth : ℕ) (keeps : (body : PlainBody) →
+      is_body_within m body (depth + 1) ≡ true → is_body_within m (f body) (depth + 1) ≡ true) where
+    with-within : (stmt : PlainStmt) → is_stmt_within m stmt depth ≡ true →
+        is_stmt_within m (with_body f stmt) depth ≡ true
+    with-within (Do op) h = h
+    with-within (Loop count body) h =
+        later_kept (is_small_positive count) (later_kept (nat_lt depth 64) (keeps body)) h
+
+    last-within : (made : PlainBody) → is_body_within m made depth ≡ true →
+        is_body_within m (in_last f made) depth ≡ true
+    last-within NoStmts h = refl
+    last-within (AndStmts stmt NoStmts) h =
+        both_kept (with-within stmt) (λ none. none) h
+    last-within (AndStmts stmt (AndStmts next rest)) h =
+        later_kept (is_stmt_within m stmt depth) (last-within (AndStmts next rest)) h
+
+  mutual
+    joined-within : (n : ℕ) (stmt : PlainStmt) (made : PlainBody) (depth : ℕ) → is_stmt_within m stmt depth ≡ true →
+        is_body_within m made depth ≡ true →
+        is_body_within m (joined n stmt made) depth ≡ true
+    joined-within zero stmt made depth h k = put-within stmt made depth h k
+    joined-within (suc n) (Do op) made depth h k = put-within (Do op) made depth h k
+    joined-within (suc n) (Loop count inside) made depth h k =
+        let more = three_true (is_small_positive count) (nat_lt depth 64) (is_body_within m inside (depth + 1)) h in
+        last-within (all_joined n inside) depth (λ body low. all-joined-within n inside body (depth + 1) more.2 low) made
+        k
+
+    all-joined-within : (n : ℕ) (body made : PlainBody) (depth : ℕ) → is_body_within m body depth ≡ true →
+        is_body_within m made depth ≡ true →
+        is_body_within m (all_joined n body made) depth ≡ true
+    all-joined-within n NoStmts made depth h k = k
+    all-joined-within n (AndStmts stmt rest) made depth h k =
+        let two = both_true (is_stmt_within m stmt depth) (is_body_within m rest depth) h in
+        all-joined-within n rest (joined n stmt made) depth two.1 (joined-within n stmt made depth two.0 k)
+
+  onto-within : (lanes wait : ℕ) (before : List Block) (made body : PlainBody) → is_body_within m made 0 ≡ true →
+      is_body_within m body 0 ≡ true →
+      is_body_within m (fused_onto lanes wait before made body) 0 ≡ true
+  onto-within lanes wait before made NoStmts h k = h
+  onto-within lanes (suc wait) before made (AndStmts stmt rest) h k =
+      let two = both_true (is_stmt_within m stmt 0) (is_body_within m rest 0) k in
+      onto-within lanes wait [] (put_behind stmt made) rest (put-within stmt made 0 two.0 h) two.1
+  onto-within lanes zero before made (AndStmts stmt rest) h k =
+      let two = both_true (is_stmt_within m stmt 0) (is_body_within m rest 0) k in
+      onto-within lanes zero (blocks_of lanes stmt) (joined (shared before (blocks_of lanes stmt)) stmt made) rest
+      (joined-within (shared before (blocks_of lanes stmt)) stmt made 0 two.0 h) two.1
+
+  pub fused-within : (lanes : ℕ) (phases : List PlainBody) → are_phases_within m phases ≡ true →
+      are_phases_within m (fused_phases lanes phases) ≡ true
+  fused-within lanes [] h = h
+  fused-within lanes (body ∷ []) h =
+      both_kept (onto-within lanes (waiting lanes body) [] NoStmts body refl) (λ none. none) h
+  fused-within lanes (body ∷ next ∷ phases) h = h
+
+-- ---- a program whose nests are fused leaves what it left
 
 -- ---- phases
 
@@ -64,7 +130,7 @@ module _ (p : PlainProgram) (q : ℕ) where
       fit s (Contains-append_left first (steps rest) s (subst (λ xs. Contains xs s) (append-nil first) has)) in
       let grown = grows p q alone before blocks made [] 0 two.0 ends
       (has-blocks p q counts kept alone [] [] [] kept refl refl tt refl two.0
-      (round-follows p.lanes counts round (first_steps (first_load round))) fit_alone) in
+      (round-keeps p.lanes counts round (first_steps (first_load round))).all fit_alone) in
       let more : PlainBody = joined (shared before blocks) stmt made in
       leaves-trans p q (steps (fused_onto p.lanes 0 blocks more rest)) (steps more ++ steps rest)
       (steps made ++ (first ++ steps rest))
@@ -78,27 +144,15 @@ module _ (p : PlainProgram) (q : ℕ) where
       LeavesFor p q (steps (fused_onto p.lanes (waiting p.lanes body) [] made body)) (steps made ++ steps body)
   waiting-onto NoStmts made fit = leaves-itself p q _ _ (sym (append-nil (steps made)))
   waiting-onto (AndStmts stmt rest) made fit =
-      of_test
-      (waiting-onto rest (put_behind stmt made) (λ s has. fit s (Contains-append_right first (steps rest) s has)))
-      (is_nest p.lanes stmt && are_nests p.lanes rest) refl
-    where
-      first : List Step
-      first = steps_of_stmt p stmt [] q
-
-      of_test : LeavesFor p q (steps (fused_onto p.lanes (waiting p.lanes rest) [] (put_behind stmt made) rest))
-          (steps (put_behind stmt made) ++ steps rest) →
-          (t : Bool) → (is_nest p.lanes stmt && are_nests p.lanes rest) ≡ t →
-          LeavesFor p q (steps (fused_onto p.lanes (if t then 0 else suc (waiting p.lanes rest)) [] made
-          (AndStmts stmt rest))) (steps made ++ (first ++ steps rest))
-      of_test more true e = nests-onto (AndStmts stmt rest) [] made e tt fit
-      of_test more false e =
-          subst (LeavesFor p q (steps (fused_onto p.lanes (waiting p.lanes rest) [] (put_behind stmt made) rest)))
-          (ap (λ xs. xs ++ steps rest) (put-steps p q stmt made []) ∙ append_assoc (steps made) first (steps rest))
-          more
-
-  fused-for : (body : PlainBody) → StepsFit p (steps body) →
-      LeavesFor p q (steps (fused_phase p.lanes body)) (steps body)
-  fused-for body fit = waiting-onto body NoStmts fit
+      let first : List Step = steps_of_stmt p stmt [] q in
+      by_test (λ n. LeavesFor p q (steps (fused_onto p.lanes n [] made (AndStmts stmt rest)))
+      (steps made ++ (first ++ steps rest))) (is_nest p.lanes stmt && are_nests p.lanes rest) 0
+      (suc (waiting p.lanes rest))
+      (λ e. nests-onto (AndStmts stmt rest) [] made e tt fit)
+      (λ e.
+      subst (LeavesFor p q (steps (fused_onto p.lanes (waiting p.lanes rest) [] (put_behind stmt made) rest)))
+      (ap (λ xs. xs ++ steps rest) (put-steps p q stmt made []) ∙ append_assoc (steps made) first (steps rest))
+      (waiting-onto rest (put_behind stmt made) (λ s has. fit s (Contains-append_right first (steps rest) s has))))
 
 -- ---- one phase of one processor
 
@@ -118,7 +172,7 @@ module _ (p : PlainProgram) (fits : PlainFits p) (apart : (phase : ℕ) → IsAp
   phase-for phase q lt =
       subst (λ xs. LeavesFor p q xs (steps_of_phase p phase q))
       (sym (phase-is (fused_phase p.lanes) refl p.phases p phase q))
-      (fused-for p q (slice_index_or p.phases phase NoStmts)
+      (waiting-onto p q (slice_index_or p.phases phase NoStmts) NoStmts
       (λ s has. All-contains (StepFits p) (steps_of_phase p phase q) s (fits.each phase q lt) has))
 
   module _ (one : p.procs ≡ 1) (phase : length p.phases ≡ 1) where

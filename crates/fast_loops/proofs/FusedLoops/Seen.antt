@@ -10,10 +10,10 @@ use Rattle.icode.specs.Plain.{plain_body}
 use Rattle.icode.proofs.Steps.{drop_item}
 use Rattle.icode.proofs.Views.{plain_stmt-Do, plain_stmt-Loop}
 use Rattle.fast_loops.specs.declared.fused_loops.blocks.Block.{Block}
+use Rattle.fast_loops.proofs.Bools.{by_test}
 use Rattle.fast_loops.specs.Interchange.{is_nest, are_nests}
 use Rattle.fast_loops.specs.FusedLoops.Blocks.{blocks_with, blocks_of, shared}
-use Rattle.fast_loops.specs.FusedLoops.FusedLoops.{put_behind, with_body, in_last, joined, waiting}
-use Rattle.fast_loops.specs.FusedLoops.FusedLoops.{fused_onto}
+use Rattle.fast_loops.specs.FusedLoops.FusedLoops.{put_behind, with_body, in_last, joined, waiting, fused_onto}
 
 -- ---- statements after others
 
@@ -138,11 +138,9 @@ abbrev pub waits : ℕ → PlainBody → ℕ → ℕ → ℕ
 waits lanes rest count index = if are_nests lanes rest then count else index + waiting lanes rest
 
 pub waits-first : (lanes : ℕ) (body : PlainBody) → waiting lanes body ≡ waits lanes body 0 0
-waits-first lanes body = of_test (are_nests lanes body) refl
-  where
-    of_test : (b : Bool) → are_nests lanes body ≡ b → waiting lanes body ≡ (if b then 0 else 0 + waiting lanes body)
-    of_test true e = waiting-nests lanes body e
-    of_test false e = omega arith
+waits-first lanes body =
+    by_test (λ n. waiting lanes body ≡ n) (are_nests lanes body) 0 (0 + waiting lanes body) (waiting-nests lanes body)
+    (λ e. omega arith)
 
 waits-nest : (lanes : ℕ) (stmt : PlainStmt) (rest : PlainBody) (count index : ℕ) → is_nest lanes stmt ≡ true →
     waits lanes (AndStmts stmt rest) count index ≡ waits lanes rest count (index + 1)
@@ -159,21 +157,14 @@ waits-other : (lanes : ℕ) (stmt : PlainStmt) (rest : PlainBody) (count index :
     waits lanes (AndStmts stmt rest) count index ≡ waits lanes rest (index + 1) (index + 1)
 waits-other lanes stmt rest count index other =
     ap (λ b. if b && are_nests lanes rest then count else index + (if b && are_nests lanes rest then 0 else suc (waiting lanes rest))) other
-    ∙ of_test (are_nests lanes rest) refl
-  where
-    of_test : (b : Bool) → are_nests lanes rest ≡ b → index + suc (waiting lanes rest)
-        ≡ (if b then index + 1 else index + 1 + waiting lanes rest)
-    of_test true e = let none = waiting-nests lanes rest e in omega (arith, none)
-    of_test false e = omega arith
-
-next-stmt : (items : List Stmt) (index : ℕ) (stmt : Stmt) → index < length items → stmt ≡ get_or items index stmt →
-    plain_body (drop index items) ≡ AndStmts (plain_stmt stmt) (plain_body (drop (index + 1) items))
-next-stmt items index stmt lt e = ap plain_body (drop_item items index stmt lt e)
+    ∙ by_test (λ n. index + suc (waiting lanes rest) ≡ n) (are_nests lanes rest) (index + 1)
+    (index + 1 + waiting lanes rest) (λ e. let none = waiting-nests lanes rest e in omega (arith, none))
+    (λ e. omega arith)
 
 module _ (lanes : ℕ) (items : List Stmt) (stmt : Stmt) (index count whole : ℕ) (lt : index < length items) (at : stmt ≡ get_or items index stmt)
     (so_far : whole ≡ waits lanes (plain_body (drop index items)) count index) where
   now : whole ≡ waits lanes (AndStmts (plain_stmt stmt) (plain_body (drop (index + 1) items))) count index
-  now = so_far ∙ ap (λ body. waits lanes body count index) (next-stmt items index stmt lt at)
+  now = so_far ∙ ap (λ body. waits lanes body count index) (ap plain_body (drop_item items index stmt lt at))
 
   -- a nest more has been seen, or another statement
   pub after-nest : is_nest lanes (plain_stmt stmt) ≡ true → whole

@@ -1,16 +1,13 @@
 -- Actions that may come before or after rounds that touch no words of a block.
-use Rattle.std.proofs.Common.{◌≡◌, ◌⊎◌, ℕ, ◌+◌, ◌*◌, ◌%◌, ◌<◌, ◌≤◌, List, ◌++◌, flat_map, inl, inr}
-use Rattle.std.proofs.Common.{arith}
+use Rattle.std.proofs.Common.{◌≡◌, ◌⊎◌, ℕ, ◌+◌, ◌*◌, ◌%◌, ◌<◌, ◌≤◌, List, ◌++◌, flat_map, inl, inr, arith}
 use Rattle.std.proofs.Math.Nat.{mul-le-mul_right}
 use Rattle.std.specs.List.{range_with_len}
 use Rattle.icode.specs.declared.action.Action.{Action}
 use Rattle.icode.specs.Machine.{whole_lines}
 use Rattle.icode.specs.Plain.{PlainProgram}
 use Rattle.fast_loops.proofs.Acts.{IsRound, Loads, Stores, DoTheSame}
-use Rattle.fast_loops.proofs.Folds.{IsSure, Commute, commute-append, commute-loop}
-use Rattle.fast_loops.proofs.Independent.{independent}
-use Rattle.fast_loops.proofs.Same.{same-sym, same-trans, same-append, same-loops}
-use Rattle.fast_loops.proofs.Swaps.{swapped}
+use Rattle.fast_loops.proofs.Swaps.{IsSure, Commute, commute-append, commute-loop, same-sym, same-trans, same-append}
+use Rattle.fast_loops.proofs.Swaps.{same-loops, swapped, independent}
 
 abbrev pub Touches : ℕ → List Action → ℕ → Type 0
 Touches lanes fs k = Loads lanes fs k ⊎ Stores lanes fs k

@@ -1,25 +1,20 @@
 -- The law of joined loops.
-use Rattle.std.proofs.Common.{◌≡◌, ℕ, List, [], ◌∷◌, map, length, refl, ap, ap₂, ◌∙◌, subst}
-use Rattle.std.proofs.Common.{Contains, arith}
+use Rattle.std.proofs.Common.{◌≡◌, ℕ, List, [], ◌∷◌, map, length, refl, ap, ap₂, ◌∙◌, subst, Contains, arith}
 use Rattle.std.specs.Prelude.{slice_index_or}
 use Rattle.std.specs.List.{range_with_len}
 use Rattle.std.proofs.Math.Path.{fun_ext}
 use Rattle.std.proofs.lemmas.List.{length-map}
 use Rattle.icode.specs.declared.action.Action.{Action}
-use Rattle.icode.specs.Actions.{PlainFits, steps_of_body, steps_of_phase, actions_of, plain_code}
+use Rattle.icode.specs.Actions.{PlainFits, steps_of_phase, actions_of, plain_code}
 use Rattle.icode.specs.Plain.{PlainBody, PlainProgram, NoStmts}
 use Rattle.fast_loops.specs.JoinedLoops.JoinedLoops.{joined_body, joined}
 use Rattle.fast_loops.specs.JoinedLoops.Laws.{JoinedDoesTheSame}
-use Rattle.fast_loops.proofs.InPlace.{no-more}
-use Rattle.fast_loops.proofs.Phases.{body_is, row, phase-is, members-fit}
+use Rattle.fast_loops.proofs.InPlace.{no-more, body_is, row, phase-is, members-fit}
 use Rattle.fast_loops.proofs.JoinedLoops.Steps.{body_joined}
 
 module _ (p : PlainProgram) where
   abbrev there : PlainProgram
   there = joined p
-
-  body_there : (body : PlainBody) (q : ℕ) → steps_of_body there (joined_body 0 body) [] q ≡ steps_of_body p body [] q
-  body_there body q = body_is p there.phases (joined_body 0 body) [] q ∙ body_joined p q 0 body [] refl
 
   -- ---- the lists of actions
 
@@ -28,7 +23,8 @@ module _ (p : PlainProgram) where
   rows_there (body ∷ bodies) =
       ap₂ (λ (r : List (List Action)) rs. r ∷ rs)
       (ap (λ (f : ℕ → List Action). map f (range_with_len 0 p.procs))
-      (fun_ext (λ q. ap actions_of (body_there body q))))
+      (fun_ext (λ q. ap actions_of
+      (body_is p there.phases (joined_body 0 body) [] q ∙ body_joined p q 0 body [] refl))))
       (rows_there bodies)
 
   code_there : plain_code there ≡ plain_code p

@@ -10,7 +10,7 @@ use Rattle.icode.specs.declared.program.Stmt.TheVariants as stmts
 use Rattle.icode.specs.Limits.{is_stmt_within, is_body_within}
 use Rattle.icode.specs.Plain.{PlainPart, PlainStmt, PlainBody, AndParts, Var, Loop, Do, NoStmts, AndStmts, parts_of}
 use Rattle.icode.specs.Plain.{body_of, plain_part, plain_stmt, plain_body}
-use Rattle.icode.proofs.Bools.{both_true}
+use Rattle.icode.proofs.Bools.{both_true, item_passes}
 use Rattle.icode.proofs.Views.{plain_stmt-Loop}
 use Rattle.fast_loops.specs.Interchange.{counts_in}
 use Rattle.fast_loops.specs.View.{plain_parts}
@@ -22,14 +22,16 @@ use Rattle.fast_loops.specs.JoinedLoops.View.{lifted_part}
 parts-is : (loop : ℕ) (parts : List PlainPart) →
     parts_of (flat_map (lifted_part loop) parts) ≡ lifted_parts loop (parts_of parts)
 parts-is loop [] = refl
-parts-is loop (Var depth factor ∷ rest) = by_test (depth == loop) (parts-is loop rest)
+parts-is loop (Var depth factor ∷ rest) = both (depth == loop) (parts-is loop rest)
   where
-    by_test : (t : Bool) → parts_of (flat_map (lifted_part loop) rest) ≡ lifted_parts loop (parts_of rest) →
-        parts_of ((if t then [] else Var (lifted_depth loop depth) factor ∷ []) ++ flat_map (lifted_part loop) rest)
-        ≡ (if t then lifted_parts loop (parts_of rest)
-        else AndParts (Var (lifted_depth loop depth) factor) (lifted_parts loop (parts_of rest)))
-    by_test true e = e
-    by_test false e = ap (AndParts (Var (lifted_depth loop depth) factor)) e
+    part : PlainPart
+    part = Var (lifted_depth loop depth) factor
+
+    both : (t : Bool) → parts_of (flat_map (lifted_part loop) rest) ≡ lifted_parts loop (parts_of rest) →
+        parts_of ((if t then [] else part ∷ []) ++ flat_map (lifted_part loop) rest)
+        ≡ (if t then lifted_parts loop (parts_of rest) else AndParts part (lifted_parts loop (parts_of rest)))
+    both true e = e
+    both false e = ap (AndParts part) e
 parts-is loop (part ∷ rest) = ap (AndParts part) (parts-is loop rest)
 
 -- parts that have been pushed
@@ -80,7 +82,7 @@ item-within m depth (suc i) (y ∷ items) x e lt is = item-within m depth i item
 pub body-within : (m i : ℕ) (phases : List (Vec Stmt Global)) (x : Vec Stmt Global) →
     list_all (λ body. is_body_within m body 0) (map (λ (body : Vec Stmt Global). plain_body body.items) phases) ≡ true →
     i < length phases → x ≡ get_or phases i x → is_body_within m (plain_body x.items) 0 ≡ true
-body-within m i [] x e lt is = absurd (omega arith)
-body-within m zero (y ∷ phases) x e lt is =
-    ap (λ (b : Vec Stmt Global). is_body_within m (plain_body b.items) 0) is ∙ (both_true _ _ e).0
-body-within m (suc i) (y ∷ phases) x e lt is = body-within m i phases x (both_true _ _ e).1 (omega arith) is
+body-within m i phases x e lt is =
+    let view : Vec Stmt Global → PlainBody = λ body. plain_body body.items in
+    ap (λ (b : Vec Stmt Global). is_body_within m (plain_body b.items) 0) is
+    ∙ item_passes (λ body. is_body_within m body 0) view phases i x e lt

@@ -1,38 +1,108 @@
 -- Columns on v lanes, turned by tiles, leave what v rounds write.
-use Rattle.std.proofs.Common.{◌≡◌, ℕ, zero, suc, ◌+◌, ◌*◌, ◌/◌, ◌%◌, ◌^◌, ◌<◌, ◌≤◌, Bool, true, not, List, [], ◌∷◌}
-use Rattle.std.proofs.Common.{◌++◌, Contains, Option, Some, None, map, flat_map, length, take, refl, sym, ap, ap₂, ◌∙◌}
-use Rattle.std.proofs.Common.{arith, inl, inr, subst, eqb-true, leb-true, mul_comm, take-append-drop}
-use Rattle.std.specs.Prelude.{◌==◌, ◌&&◌, nat_le, slice_index}
+use Rattle.std.proofs.Common.{◌≡◌, ◌≢◌, ◌⊎◌, ℕ, zero, suc, ◌+◌, ◌<◌, ◌≤◌, true, not, List, [], ◌∷◌, length, refl, sym}
+use Rattle.std.proofs.Common.{◌∙◌, arith, inl, inr, eq-eqb, ◌*◌, ◌/◌, ◌%◌, ◌^◌, Bool, ◌++◌, Contains, Option, Some}
+use Rattle.std.proofs.Common.{None, map, flat_map, take, ap, ap₂, subst, eqb-true, leb-true, mul_comm, take-append-drop}
+use Rattle.std.specs.Prelude.{◌==◌, slice_index, ◌&&◌, nat_le}
 use Rattle.std.specs.List.{list_all, range_with_len}
+use Rattle.std.proofs.lemmas.Bool.{cases_eq, not-true, true≢false}
+use Rattle.icode.proofs.Bools.{both_true}
+use Rattle.fast_loops.proofs.Linear.{chosen, passed, wrong}
+use Rattle.fast_loops.specs.LoopLanes.Columns.{renumbered, are_distinct, Columns, Factors, are_products}
+use Rattle.fast_loops.specs.LoopLanes.Columns.{factored_registers, front_length, last_products, plain_columns}
+use Rattle.fast_loops.specs.LoopLanes.Columns.{factored_columns, are_tiles, are_columns, are_by, are_plain_columns}
+use Rattle.fast_loops.specs.LoopLanes.Columns.{are_factored_columns, in_columns}
 use Rattle.std.proofs.lemmas.List.{length-take-le}
 use Rattle.icode.specs.Limits.{is_small}
 use Rattle.icode.specs.Machine.{Local, effects}
 use Rattle.icode.specs.Plain.{PlainOp, PlainProgram}
-use Rattle.icode.proofs.Bools.{both_true}
 use Rattle.icode.specs.CodeLaws.Lanes.{lane_of}
 use Rattle.icode.proofs.CodeLaws.Stores.{length-registers}
 use Rattle.fast_loops.specs.Places.{are_linear, stride}
 use Rattle.fast_loops.specs.Rounds.{Stored, are_fresh}
-use Rattle.fast_loops.proofs.Linear.{wrong}
-use Rattle.fast_loops.specs.LoopLanes.Columns.{Columns, Factors, renumbered, are_distinct, are_products}
-use Rattle.fast_loops.specs.LoopLanes.Columns.{factored_registers, front_length, last_products, plain_columns}
-use Rattle.fast_loops.specs.LoopLanes.Columns.{factored_columns, are_tiles, are_columns, are_by, are_plain_columns}
-use Rattle.fast_loops.specs.LoopLanes.Columns.{are_factored_columns, in_columns}
+use Rattle.fast_loops.proofs.Swaps.{loops_same}
 use Rattle.fast_loops.specs.LoopLanes.Layers.{Write, IsAfter, IsGroup, LeaveWrites, memory_by, written, values_put}
 use Rattle.fast_loops.specs.LoopLanes.Layers.{round_writes, group_writes}
 use Rattle.fast_loops.specs.LoopLanes.Rounds.{straight, is_store, is_by_lane, stores, others, stored_registers}
 use Rattle.fast_loops.specs.LoopLanes.Rounds.{stored_constants, are_from}
-use Rattle.fast_loops.proofs.LoopLanes.Held.{IsFront, HoldsBy, in_lanes, values_in}
-use Rattle.fast_loops.proofs.LoopLanes.FrontHeld.{front_held}
-use Rattle.fast_loops.proofs.LoopLanes.Orders.{some_lanes, group_fits}
-use Rattle.fast_loops.proofs.LoopLanes.Parted.{all_taken, from_at, others_put, others_fresh, taken_fresh}
-use Rattle.fast_loops.proofs.LoopLanes.Parted.{length-stored_registers, stored_low, puts_low}
-use Rattle.fast_loops.proofs.LoopLanes.Renumbered.{renumbered_is, renumbered_apart, renumbered_at}
-use Rattle.fast_loops.proofs.LoopLanes.RoundWrites.{acts_in, acts-append, others_values, values_follow, products_low}
-use Rattle.fast_loops.proofs.LoopLanes.RoundWrites.{products_put, writes_in_order}
+use Rattle.fast_loops.proofs.LoopLanes.FrontHeld.{IsFront, HoldsBy, in_lanes, values_in, front_held}
+use Rattle.fast_loops.proofs.LoopLanes.Orders.{some_lanes, group_fits, all_taken, from_at, others_put, others_fresh}
+use Rattle.fast_loops.proofs.LoopLanes.Orders.{taken_fresh, length-stored_registers, stored_low, puts_low, acts_in}
+use Rattle.fast_loops.proofs.LoopLanes.Orders.{acts-append, others_values, values_follow, products_low, products_put}
+use Rattle.fast_loops.proofs.LoopLanes.Orders.{writes_in_order}
 use Rattle.fast_loops.proofs.LoopLanes.Tiled.{Leave, AreLinearBy, stored_in, write_in, wide_acts, wide_follow, tile_ops}
 use Rattle.fast_loops.proofs.LoopLanes.Tiled.{in_tiles}
 use Rattle.fast_loops.proofs.LoopLanes.Turned.{by_rounds, by_tiles, turned_after}
+
+-- a number stays, or is one of as many as are turned
+pub renumbered_is : (at : ℕ) (xs : List ℕ) (r : ℕ) →
+    (renumbered at xs r ≡ r) ⊎ ((at ≤ renumbered at xs r) × (renumbered at xs r < at + length xs))
+renumbered_is at [] r = inl refl
+renumbered_is at (x ∷ xs) r =
+    elim (cases_eq r x) [
+      | inl same ↦ let e = chosen r x at (renumbered (at + 1) xs r) same in inr (omega (arith, e), omega (arith, e))
+      | inr other ↦ behind (passed r x at (renumbered (at + 1) xs r) other) (renumbered_is (at + 1) xs r)
+    ]
+  where
+    behind : renumbered at (x ∷ xs) r ≡ renumbered (at + 1) xs r →
+        (renumbered (at + 1) xs r ≡ r) ⊎
+        ((at + 1 ≤ renumbered (at + 1) xs r) × (renumbered (at + 1) xs r < at + 1 + length xs)) →
+        (renumbered at (x ∷ xs) r ≡ r) ⊎
+        ((at ≤ renumbered at (x ∷ xs) r) × (renumbered at (x ∷ xs) r < at + length (x ∷ xs)))
+    behind e (inl stays) = inl (e ∙ stays)
+    behind e (inr two) = inr (omega (arith, e, two.0), omega (arith, e, two.1))
+
+-- no two numbers from below become one
+pub renumbered_apart : (at : ℕ) (xs : List ℕ) (r k : ℕ) → r < at → k < at → renumbered at xs r ≡ renumbered at xs k →
+    r ≡ k
+renumbered_apart at [] r k low lower e = e
+renumbered_apart at (x ∷ xs) r k low lower e =
+    elim (cases_eq r x) [
+      | inl one ↦
+          elim (cases_eq k x) [
+            | inl two ↦ one ∙ sym two
+            | inr other ↦ absurd (differ k lower (sym (first r one) ∙ e ∙ later k other))
+          ]
+      | inr other ↦
+          elim (cases_eq k x) [
+            | inl two ↦ absurd (differ r low (sym (first k two) ∙ sym e ∙ later r other))
+            | inr more ↦
+                renumbered_apart (at + 1) xs r k (omega (arith, low)) (omega (arith, lower))
+                (sym (later r other) ∙ e ∙ later k more)
+          ]
+    ]
+  where
+    first : (i : ℕ) → i ≡ x → renumbered at (x ∷ xs) i ≡ at
+    first i e = chosen i x at (renumbered (at + 1) xs i) e
+
+    later : (i : ℕ) → i ≢ x → renumbered at (x ∷ xs) i ≡ renumbered (at + 1) xs i
+    later i ne = passed i x at (renumbered (at + 1) xs i) ne
+
+    differ : (i : ℕ) → i < at → at ≡ renumbered (at + 1) xs i → ⊥
+    differ i below e =
+        elim (renumbered_is (at + 1) xs i) [
+          | inl stays ↦ omega (arith, below, e, stays)
+          | inr two ↦ omega (arith, e, two.0)
+        ]
+
+differs : (x : ℕ) (xs : List ℕ) (c : ℕ) → list_all (λ y. not (x == y)) xs ≡ true → c < length xs →
+    slice_index xs c ≢ x
+differs x [] c h below = absurd (omega arith)
+differs x (y ∷ xs) zero h below = λ e.
+    true≢false (sym (eq-eqb x y (sym e)) ∙ not-true (x == y) (both_true (not (x == y)) _ h).0)
+differs x (y ∷ xs) (suc c) h below = differs x xs c (both_true (not (x == y)) _ h).1 (omega arith)
+
+-- the number of a register that is turned
+pub renumbered_at : (at : ℕ) (xs : List ℕ) (c : ℕ) → are_distinct xs ≡ true → c < length xs →
+    renumbered at xs (slice_index xs c) ≡ at + c
+renumbered_at at [] c h below = absurd (omega arith)
+renumbered_at at (x ∷ xs) zero h below = chosen x x at (renumbered (at + 1) xs x) refl ∙ omega arith
+renumbered_at at (x ∷ xs) (suc c) h below =
+    let two = both_true (list_all (λ y. not (x == y)) xs) (are_distinct xs) h in
+    let more = renumbered_at (at + 1) xs c two.1 (omega arith) in
+    passed (slice_index xs c) x at (renumbered (at + 1) xs (slice_index xs c)) (differs x xs c two.0 (omega arith))
+    ∙ omega (arith, more)
+
+-- ---- columns on v lanes, turned by tiles, leave what v rounds write
 
 -- ---- what the tests tell
 
@@ -96,13 +166,6 @@ by_told v loop ops by h =
     record { linear = place.0; small = place.1; products = two.0; from = two.1 }
 
 -- ---- any columns
-
-loops_same : {X : Type 0} (f g : ℕ → List X) (j n : ℕ) → ((i : ℕ) → j ≤ i → i < j + n → f i ≡ g i) →
-    flat_map f (range_with_len j n) ≡ flat_map g (range_with_len j n)
-loops_same f g j zero h = refl
-loops_same f g j (suc n) h =
-    ap₂ (λ x xs. x ++ xs) (h j (omega arith) (omega arith))
-    (loops_same f g (j + 1) n (λ i from to. h i (omega (arith, from)) (omega (arith, to))))
 
 -- the operations before the tiles put registers of the program, and those that are turned are among these
 pub record IsBefore (p : PlainProgram) (c : Columns) : Type 0 where

@@ -8,7 +8,7 @@ use Rattle.icode.specs.Actions.{Step, StepFits, step_of, actions_of}
 use Rattle.icode.specs.Machine.{stored_words, touched_words}
 use Rattle.icode.specs.Plain.{PlainOp, PlainProgram}
 use Rattle.icode.proofs.Lines.{Contains-map}
-use Rattle.fast_loops.proofs.Changes.{in-loop}
+use Rattle.fast_loops.proofs.Rows.{in-loop}
 use Rattle.fast_loops.proofs.Members.{all_of_members, into_flat_map, from_flat_map}
 use Rattle.fast_loops.specs.LoopLanes.Layers.{AreLanesFor, steps_at, group_at, on_lanes, memory_by, stored_by}
 use Rattle.fast_loops.specs.LoopLanes.Layers.{touched_by}

@@ -1,42 +1,30 @@
--- Operations that are done in lanes touch words that those of the rounds touch, and fit.
+-- Operations that are done in lanes, rows of tiles, products and loads touch words that the rounds touch, and fit.
 use Rattle.std.proofs.Common.{◌≡◌, ℕ, ◌+◌, ◌-◌, ◌*◌, ◌^◌, ◌<◌, ◌≤◌, true, not, List, [], ◌∷◌, ◌++◌, All, Contains}
-use Rattle.std.proofs.Common.{length, replicate, refl, sym, ap, ◌∙◌, subst, arith, eqb-true}
+use Rattle.std.proofs.Common.{length, replicate, refl, sym, ap, ◌∙◌, subst, arith, eqb-true, ◌⊎◌}
 use Rattle.std.specs.Prelude.{◌==◌, slice_index, slice_index_or}
 use Rattle.std.specs.List.{range_with_len}
-use Rattle.std.proofs.lemmas.List.Elements.{All-append, All-head, All-replicate}
-use Rattle.std.proofs.lemmas.List.FromFn.{get_or-map-range_with_len, length-map-range_with_len}
-use Rattle.operators.specs.Sum.{list_below}
+use Rattle.std.proofs.lemmas.List.Elements.{All-head}
 use Rattle.icode.specs.declared.program.Array.{Array}
 use Rattle.icode.specs.Actions.{Step, StepFits, array_start, lane_factors, step_of}
 use Rattle.icode.specs.Expression.{sum_numbers}
 use Rattle.icode.specs.Machine.{whole_lines, stored_words, touched_words}
 use Rattle.icode.specs.Plain.{PlainExpr, PlainOp, PlainProgram, Sum, Load, Store, Zero, Add, Sub, Neg, MulConst}
-use Rattle.icode.specs.Plain.{MulTable, Tile}
+use Rattle.icode.specs.Plain.{MulTable, Tile, PlainParts}
 use Rattle.icode.proofs.Bools.{both_true}
 use Rattle.icode.proofs.Lines.{Contains-nil, Contains-range}
 use Rattle.fast_loops.specs.Places.{are_linear, is_linear, stride}
 use Rattle.fast_loops.specs.Rounds.{Stored, same_array}
 use Rattle.fast_loops.proofs.Linear.{wrong, parts_equal}
+use Rattle.fast_loops.proofs.Rows.{factors_fit}
 use Rattle.fast_loops.proofs.Members.{range_item}
 use Rattle.fast_loops.specs.LoopLanes.Rounds.{widened, place_stride, is_store, is_by_lane, in_row}
-use Rattle.fast_loops.specs.LoopLanes.Columns.{renumbered_op}
+use Rattle.fast_loops.specs.LoopLanes.Columns.{renumbered_op, Factors}
 use Rattle.fast_loops.specs.LoopLanes.Layers.{group_at, on_lanes}
 use Rattle.fast_loops.proofs.LoopLanes.Covered.{IsCovered, IsInGroup, in_group, group}
-use Rattle.fast_loops.proofs.LoopLanes.Wide.{widened_value, wide_value}
+use Rattle.fast_loops.proofs.LoopLanes.Wide.{widened_value, wide_value, moved, moved_value, moved_peak}
+use Rattle.fast_loops.specs.LoopLanes.Loads.{Loaded}
 
 -- ---- factors
-
-all-below : (P : ℕ → Type 0) (n : ℕ) (g : ℕ → ℕ) → ((l : ℕ) → l < n → P (g l)) → All P (list_below n g)
-all-below P n g each k d lt =
-    let few : k < n = omega (arith, lt, length-map-range_with_len g 0 n) in
-    subst P (sym (get_or-map-range_with_len g 0 n k k d few (omega arith))) (each k few)
-
--- factors of lanes fit where each does, and there is a number below the modulus
-pub factors_fit : (m lanes : ℕ) (g : ℕ → ℕ) → 0 < m → ((l : ℕ) → l < lanes → g l < m) →
-    All (λ c. c < m) (lane_factors lanes g)
-factors_fit m lanes g some each =
-    All-append (λ c. c < m) (list_below lanes g) (replicate (16 - lanes) 0)
-    (all-below (λ c. c < m) lanes g each) (All-replicate (λ c. c < m) (16 - lanes) 0 some)
 
 pub no_steps : (at step : ℕ) → at + step * 0 ≡ at
 no_steps at step = omega arith
@@ -48,10 +36,6 @@ factor_fits m lanes g alone all =
 
 -- ---- words one after the other
 
--- the word alone
-one_word : (a k : ℕ) → k ≡ a → Contains (range_with_len a 1) k
-one_word a k e = Contains-range 1 a k (omega (arith, e)) (omega (arith, e))
-
 -- what holds of the word of each lane holds of the words from the first on
 pub words_of_lanes : (P : ℕ → Type 0) (v first : ℕ) (at : ℕ → ℕ) → ((l : ℕ) → at l ≡ first + l) →
     ((l : ℕ) → l < v → (k : ℕ) → Contains (range_with_len (at l) 1) k → P k) →
@@ -60,7 +44,22 @@ words_of_lanes P v first at is each k h =
     let within = range_item first v k h in
     let from = within.0 in
     let l : ℕ = k - first in
-    each l (omega (arith, within.1, from)) k (one_word (at l) k (omega (arith, from, is l)))
+    let e : k ≡ at l = omega (arith, from, is l) in
+    each l (omega (arith, within.1, from)) k (Contains-range 1 (at l) k (omega (arith, e)) (omega (arith, e)))
+
+-- ---- what the rounds do
+
+-- the rounds store into the word of this constant
+pub record IsStored (to : Stored) (ops : List PlainOp) (constant : ℕ) : Type 0 where
+  pub register : ℕ
+  pub has : Contains ops (Store to.array (Sum constant to.parts) register)
+
+-- the rounds multiply by the entry of this number
+pub record IsMultiplied (by : Factors) (ops : List PlainOp) (k : ℕ) : Type 0 where
+  pub register : ℕ
+  pub source : ℕ
+  pub step : ℕ
+  pub has : Contains ops (MulTable register source by.table (Sum (by.constant + k) by.parts) step)
 
 -- ---- operations
 
@@ -140,9 +139,10 @@ module _ (v : ℕ) (p : PlainProgram) (ops : List PlainOp) (vs : List ℕ) (b q 
         (f r < 3 * p.regs) × (f x < 3 * p.regs) × (f y < 3 * p.regs)
     low_three r x y h = (low r h.0, low x h.1, low y h.2)
 
-    load_covered : (r : ℕ) (array : Array) (place : PlainExpr) → is_linear place ≡ true → place_stride loop place ≡ 1 →
+    wide_load_covered : (r : ℕ) (array : Array) (place : PlainExpr) → is_linear place ≡ true →
+        place_stride loop place ≡ 1 →
         Contains ops (Load r array place) → Covered (Load (f r) array (widened v loop place))
-    load_covered r array place linear unit has =
+    wide_load_covered r array place linear unit has =
         let old = known (Load r array place) has in
         record {
           stored = λ k h. absurd (Contains-nil k h);
@@ -213,7 +213,7 @@ module _ (v : ℕ) (p : PlainProgram) (ops : List PlainOp) (vs : List ℕ) (b q 
         let two =
         both_true (is_linear place) (place_stride loop place == 1)
         (both_true (not (same_array array to.array)) _ h).1 in
-        load_covered r array place two.0 (eqb-true (place_stride loop place) 1 two.1) has
+        wide_load_covered r array place two.0 (eqb-true (place_stride loop place) 1 two.1) has
     front_covered to (Store array (Sum constant parts) r) linear unit h has =
         let same : to.parts ≡ parts = sym (parts_equal parts to.parts (both_true (same_array array to.array) _ h).1) in
         store_covered array (Sum constant parts) r (subst (λ parts. are_linear 0 parts ≡ true) same linear)
@@ -247,3 +247,149 @@ module _ (v : ℕ) (p : PlainProgram) (ops : List PlainOp) (vs : List ℕ) (b q 
     front_covered to (MulTable r x table place step) linear unit h has =
         table_covered r x table place step (both_true (is_linear place) _ h).0 has
     front_covered to (Tile r x) linear unit h has = wrong h
+
+  -- the place that is moved to a round
+  abbrev place_at : ℕ → PlainParts → ℕ → ℕ
+  place_at constant parts l = (sum_numbers (moved v loop constant parts l) (vs ++ b ∷ []) q).value
+
+  -- one of a greater constant in the round
+  place_behind : (constant i : ℕ) (parts : PlainParts) (l : ℕ) → are_linear 0 parts ≡ true →
+      (sum_numbers (Sum (constant + i) parts) (vs ++ (v * b + l) ∷ []) q).value ≡ place_at constant parts l + i
+  place_behind constant i parts l linear =
+      let first = moved_value v loop constant parts vs b l q linear refl in
+      omega (arith, first)
+
+  peak_at : (constant first : ℕ) (parts : PlainParts) (l : ℕ) → are_linear 0 parts ≡ true → first ≡ constant →
+      (sum_numbers (Sum first parts) (vs ++ (v * b + l) ∷ []) q).peak < 2 ^ 64 →
+      (sum_numbers (moved v loop constant parts l) (vs ++ b ∷ []) q).peak < 2 ^ 64
+  peak_at constant first parts l linear same h =
+      less (sum_numbers (moved v loop constant parts l) (vs ++ b ∷ []) q).peak
+      (sum_numbers (Sum constant parts) (vs ++ (v * b + l) ∷ []) q).peak (2 ^ 64)
+      (moved_peak v loop constant parts vs b l q linear refl)
+      (subst (λ c. (sum_numbers (Sum c parts) (vs ++ (v * b + l) ∷ []) q).peak < 2 ^ 64) same h)
+    where
+      less : (a c n : ℕ) → a ≤ c → c < n → a < n
+      less a c n le lt = omega (arith, le, lt)
+
+  -- ---- tiles
+
+  pub tile_covered : (r x : ℕ) → r + v ≤ 3 * p.regs → x + v ≤ 3 * p.regs → (r + v ≤ x) ⊎ (x + v ≤ r) →
+      Covered (Tile r x)
+  tile_covered r x room more apart =
+      silent (Tile r x) refl refl
+      (record { numbers = omega arith; place = omega arith; registers = (room, more, apart); factors = tt })
+
+  -- ---- rows
+
+  -- words of an array from a constant on, in a round
+  module _ (array : Array) (parts : PlainParts) (linear : are_linear 0 parts ≡ true) (constant l : ℕ) where
+    abbrev place_of : ℕ → ℕ
+    place_of i = (sum_numbers (Sum (constant + i) parts) (vs ++ (v * b + l) ∷ []) q).value
+
+    words_of_row : (P : ℕ → Type 0) →
+        ((i : ℕ) → i < v → (k : ℕ) → Contains (range_with_len (array_start words array + place_of i) 1) k → P k) →
+        (k : ℕ) → Contains (range_with_len (array_start words array + place_at constant parts l) v) k → P k
+    words_of_row P =
+        words_of_lanes P v (array_start words array + place_at constant parts l)
+        (λ i. array_start words array + place_of i) (λ i. omega (arith, place_behind constant i parts l linear))
+
+  module _ (to : Stored) (linear : are_linear 0 to.parts ≡ true) (constant : ℕ) (each : (i : ℕ) → i < v →
+      IsStored to ops (constant + i))
+      (l : ℕ) (low : l < v) where
+    pub row_covered : (r : ℕ) → r < 3 * p.regs → Covered (Store to.array (moved v loop constant to.parts l) r)
+    row_covered r small =
+        let last : v - 1 < v = omega (arith, some) in
+        let end = ((known _ (each (v - 1) last).has).fits l low).place in
+        record {
+          stored =
+              words_of_row to.array to.parts linear constant l _ (λ i lt. (known _ (each i lt).has).stored l low);
+          touched =
+              words_of_row to.array to.parts linear constant l _ (λ i lt. (known _ (each i lt).has).touched l low);
+          fits =
+              record {
+                numbers =
+                    peak_at constant (constant + 0) to.parts l linear (omega arith)
+                    ((known _ (each 0 some).has).fits l low).numbers;
+                place = omega (arith, some, alone, end, place_behind constant (v - 1) to.parts l linear);
+                registers = small;
+                factors = tt;
+              };
+        }
+
+  -- ---- loads of tiles
+
+  module _ (from : Loaded) (linear : are_linear 0 from.parts ≡ true) (constant : ℕ) (each : (i : ℕ) → i < v →
+      Contains ops (Load (constant + i) from.array (Sum (constant + i) from.parts))) (l : ℕ) (low : l < v) where
+    pub load_covered : (r : ℕ) → r < 3 * p.regs → Covered (Load r from.array (moved v loop constant from.parts l))
+    load_covered r small =
+        let last : v - 1 < v = omega (arith, some) in
+        let end = ((known _ (each (v - 1) last)).fits l low).place in
+        record {
+          stored = λ k h. absurd (Contains-nil k h);
+          touched =
+              words_of_row from.array from.parts linear constant l _ (λ i lt. (known _ (each i lt)).touched l low);
+          fits =
+              record {
+                numbers =
+                    peak_at constant (constant + 0) from.parts l linear (omega arith)
+                    ((known _ (each 0 some)).fits l low).numbers;
+                place = omega (arith, some, alone, end, place_behind constant (v - 1) from.parts l linear);
+                registers = small;
+                factors = tt;
+              };
+        }
+
+  -- ---- products
+
+  -- by entries from one on, in a round
+  module _ (by : Factors) (linear : are_linear 0 by.parts ≡ true) (k : ℕ) (each : (i : ℕ) → i < v →
+      IsMultiplied by ops (k + i))
+      (l : ℕ) (low : l < v) where
+    abbrev entries : List ℕ
+    entries = slice_index_or p.tables by.table []
+
+    abbrev place_of_entry : ℕ → ℕ
+    place_of_entry i = (sum_numbers (Sum (by.constant + (k + i)) by.parts) (vs ++ (v * b + l) ∷ []) q).value
+
+    entry_behind : (i : ℕ) → place_of_entry i ≡ place_at (by.constant + k) by.parts l + i
+    entry_behind i =
+        let same : by.constant + (k + i) ≡ by.constant + k + i = omega arith in
+        ap (λ c. (sum_numbers (Sum c by.parts) (vs ++ (v * b + l) ∷ []) q).value) same
+        ∙ place_behind (by.constant + k) i by.parts l linear
+
+    entry_fits : (i : ℕ) → i < v → slice_index entries (place_of_entry i) < p.modulus
+    entry_fits i lt =
+        subst (λ at. slice_index entries at < p.modulus) (no_steps (place_of_entry i) (each i lt).step)
+        (factor_fits p.modulus p.lanes (λ lane. slice_index entries (place_of_entry i + (each i lt).step * lane)) alone
+        ((known _ (each i lt).has).fits l low).factors)
+
+    pub product_covered : (r : ℕ) → r < 3 * p.regs →
+        Covered (MulTable r r by.table (moved v loop (by.constant + k) by.parts l) 1)
+    product_covered r small =
+        let last : v - 1 < v = omega (arith, some) in
+        let end = ((known _ (each (v - 1) last).has).fits l low).place in
+        let first = entry_fits 0 some in
+        silent (MulTable r r by.table (moved v loop (by.constant + k) by.parts l) 1) refl refl
+        (record {
+          numbers =
+              peak_at (by.constant + k) (by.constant + (k + 0)) by.parts l linear (omega arith)
+              ((known _ (each 0 some).has).fits l low).numbers;
+          place =
+              reached (place_of_entry (v - 1)) (place_at (by.constant + k) by.parts l)
+              (each (v - 1) last).step p.lanes (length entries)
+              (entry_behind (v - 1)) end;
+          registers = (small, small);
+          factors =
+              factors_fit p.modulus v
+              (λ lane. slice_index entries (place_at (by.constant + k) by.parts l + 1 * lane))
+              (omega (arith, first))
+              (λ i lt. subst (λ at. slice_index entries at < p.modulus)
+              (entry_behind i ∙ by_one (place_at (by.constant + k) by.parts l) i) (entry_fits i lt));
+        })
+      where
+        by_one : (a i : ℕ) → a + i ≡ a + 1 * i
+        by_one a i = omega arith
+
+        reached : (old new step lanes room : ℕ) → old ≡ new + (v - 1) → old + step * (lanes - 1) + 1 ≤ room →
+            new + 1 * (v - 1) + 1 ≤ room
+        reached old new step lanes room same h = omega (arith, same, h)

@@ -1,37 +1,67 @@
 -- Operations on v lanes do in each lane what they do in a round.
-use Rattle.std.proofs.Common.{◌≡◌, ◌≢◌, ℕ, suc, ◌+◌, ◌*◌, ◌<◌, ◌≤◌, true, false, not, List, [], ◌∷◌, ◌++◌, Contains}
-use Rattle.std.proofs.Common.{length, refl, sym, ap, ap₂, ◌∙◌, arith, inl, inr, subst, eqb-true}
-use Rattle.std.proofs.Common.{length-append}
-use Rattle.std.specs.Prelude.{◌-◌, ◌==◌, slice_index, slice_index_or}
+use Rattle.std.specs.Prelude.{map, slice_index, ◌==◌, slice_index_or}
 use Rattle.std.specs.List.{list_all}
+use Rattle.icode.specs.Actions.{actions_of, array_start, lane_factors, step_of}
+use Rattle.icode.specs.Machine.{Local, effects, effect, memory_after, value_put, whole_lines}
+use Rattle.icode.specs.Plain.{PlainOp, PlainProgram, PlainExpr, Load, Store, Zero, Add, Sub, Neg, MulConst, MulTable}
+use Rattle.icode.specs.Plain.{Tile}
+use Rattle.icode.specs.CodeLaws.Lanes.{lane_of, Registers, with_register, lane_effect, IsArithmetic}
+use Rattle.fast_loops.specs.Rounds.{Stored, are_fresh, same_array, is_fresh, put_after}
+use Rattle.fast_loops.specs.LoopLanes.Columns.{renumbered_op}
+use Rattle.fast_loops.specs.LoopLanes.Layers.{on_lanes, steps_at, values_put}
+use Rattle.fast_loops.specs.LoopLanes.Rounds.{straight, is_by_lane, is_store, in_row, place_stride, widened}
+use Rattle.std.proofs.Common.{◌≡◌, ◌≢◌, ℕ, suc, ◌+◌, ◌*◌, ◌<◌, ◌≤◌, true, false, not, List, [], ◌∷◌, ◌++◌, Contains}
+use Rattle.std.proofs.Common.{length, refl, sym, ap, ap₂, ◌∙◌, arith, inl, inr, subst, eqb-true, length-append}
 use Rattle.std.proofs.Math.Seq.{get_or-append_seam}
 use Rattle.std.proofs.lemmas.Bool.{cases_eq, not-true, true≢false}
 use Rattle.std.proofs.lemmas.List.{get_or_append_left}
 use Rattle.ring_mod.specs.Residue.{sum_mod, difference_mod, negation_mod, product_mod}
 use Rattle.icode.specs.declared.action.Action.{Action}
-use Rattle.icode.specs.declared.action.Action.TheVariants as actions
-use Rattle.icode.specs.Actions.{actions_of, array_start, lane_factors, step_of}
 use Rattle.icode.specs.Expression.{sum_numbers}
-use Rattle.icode.specs.Machine.{Local, effect, effects, memory_after, value_put, whole_lines}
-use Rattle.icode.specs.Plain.{PlainExpr, PlainOp, PlainProgram, Load, Store, Zero, Add, Sub, Neg, MulConst, MulTable}
-use Rattle.icode.specs.Plain.{Tile}
 use Rattle.icode.proofs.Bools.{both_true}
 use Rattle.icode.proofs.Lines.{Contains-head}
-use Rattle.icode.specs.CodeLaws.Lanes.{Registers, lane_of, with_register, lane_effect, IsArithmetic}
 use Rattle.icode.proofs.CodeLaws.ByLane.{this_register, other_register, effect_by_lane, length-registers_after}
 use Rattle.icode.proofs.CodeLaws.Stores.{load_by_lane}
 use Rattle.fast_loops.specs.Places.{is_linear}
-use Rattle.fast_loops.specs.Rounds.{Stored, same_array, is_fresh, put_after, are_fresh}
 use Rattle.fast_loops.proofs.Acts.{loaded_words}
 use Rattle.fast_loops.proofs.Linear.{wrong}
-use Rattle.fast_loops.specs.LoopLanes.Columns.{renumbered_op}
-use Rattle.fast_loops.specs.LoopLanes.Layers.{on_lanes, steps_at, values_put}
-use Rattle.fast_loops.specs.LoopLanes.Rounds.{straight, is_by_lane, is_store, in_row, place_stride, widened}
-use Rattle.fast_loops.proofs.LoopLanes.Held.{AreHeld, IsFront, HoldsBy, in_lanes, values_in}
 use Rattle.fast_loops.proofs.LoopLanes.Wide.{wide_value}
-use Rattle.fast_loops.proofs.Fresh.{two-sources, one-source}
+use Rattle.fast_loops.proofs.Rows.{two-sources, one-source, factors_each}
 use Rattle.fast_loops.proofs.TwoTables.Products.{factor_at}
-use Rattle.fast_loops.proofs.Rows.{factors_each}
+use Rattle.icode.specs.declared.action.Action.TheVariants as actions
+
+-- the registers of v lanes hold what each round has put: f r what register r holds, for each register below the next
+pub record AreHeld (v : ℕ) (f : ℕ → ℕ) (registers : List ℕ) (values : ℕ → List ℕ) (next : ℕ) : Type 0 where
+  pub long : (l : ℕ) → l < v → length (values l) ≡ next
+  pub held : (r l : ℕ) → r < next → l < v → lane_of v registers l (f r) ≡ slice_index (values l) r
+
+-- operations that store nothing and are done in lanes on other registers, f r in the place of r
+pub record IsFront (p : PlainProgram) (loop : ℕ) (to : Stored) (f : ℕ → ℕ) (front : List PlainOp) : Type 0 where
+  pub alone : p.lanes ≡ 1
+  pub fresh : are_fresh 1 0 (straight front) ≡ true
+  pub by_lane : list_all (is_by_lane loop to) front ≡ true
+  pub puts : list_all (λ op. not (is_store op)) front ≡ true
+  pub low : (r : ℕ) → r < length front → f r < 3 * p.regs
+  pub apart : (r k : ℕ) → r < length front → k < length front → f r ≡ f k → r ≡ k
+
+-- what round l of a group puts
+abbrev pub values_in : ℕ → PlainProgram → List ℕ → List PlainOp → List ℕ → ℕ → ℕ → ℕ → List ℕ
+values_in v p memory ops vs b q l =
+    values_put p.modulus memory [] (actions_of (steps_at p ops (vs ++ (v * b + l) ∷ []) q))
+
+-- operations on v lanes, with other registers
+abbrev pub in_lanes : ℕ → ℕ → (ℕ → ℕ) → List PlainOp → List PlainOp
+in_lanes v loop f ops = map (λ op. renumbered_op f (in_row v loop op)) ops
+
+-- these operations on v lanes leave the memory, and what those of the rounds put
+pub record HoldsBy (v : ℕ) (p : PlainProgram) (f : ℕ → ℕ) (new front : List PlainOp) (vs : List ℕ) (b q : ℕ)
+    (s : Local) : Type 0 where
+  pub memory : (effects p.modulus v (actions_of (steps_at (on_lanes v p) new (vs ++ b ∷ []) q)) s).memory ≡ s.memory
+  pub registers :
+      AreHeld v f (effects p.modulus v (actions_of (steps_at (on_lanes v p) new (vs ++ b ∷ []) q)) s).registers
+      (values_in v p s.memory front vs b q) (length front)
+
+-- ---- operations on v lanes do in each lane what they do in a round
 
 -- one more register is held
 more_held : (v : ℕ) (f : ℕ → ℕ) (registers after : List ℕ) (values more : ℕ → List ℕ) (r next : ℕ) (x : ℕ → ℕ) →

@@ -3,14 +3,12 @@ use Rattle.fast_loops.specs.LoopLanes.Laws.{LanedLeavesTheSame}
 use Rattle.fast_loops.specs.LoopLanes.Layers.{LanesWrite, LeaveWrites}
 use Rattle.std.proofs.Common.{length}
 use Rattle.fast_loops.proofs.LoopLanes.ColumnsAre.{columns_write, factored_columns_write}
-use Rattle.fast_loops.proofs.LoopLanes.Groups.{groups_write}
-use Rattle.fast_loops.proofs.LoopLanes.Kinds.{of_kinds}
-use Rattle.fast_loops.proofs.LoopLanes.LoadedAre.{loaded_write, loaded_factored_write}
-use Rattle.fast_loops.proofs.LoopLanes.LoadedRowsAre.{loaded_rows_write}
-use Rattle.fast_loops.proofs.LoopLanes.Programs.{lanes_follow}
+use Rattle.fast_loops.proofs.LoopLanes.Told.{groups_write, groups_are_sure}
+use Rattle.fast_loops.proofs.LoopLanes.LoadsTold.{of_kinds}
+use Rattle.fast_loops.proofs.LoopLanes.LoadsHeld.{loaded_write, loaded_factored_write, loaded_rows_write}
+use Rattle.fast_loops.proofs.LoopLanes.Nests.{lanes_follow}
 use Rattle.fast_loops.proofs.LoopLanes.RoundsAre.{rounds_are_lanes}
 use Rattle.fast_loops.proofs.LoopLanes.RowsAre.{rows_write}
-use Rattle.fast_loops.proofs.LoopLanes.Sure.{groups_are_sure}
 
 lanes_write : LanesWrite
 lanes_write v p to ops vs b q group can =

@@ -1,25 +1,44 @@
--- Loads by tiles: after them each lane holds the row of its round.
+-- Loads by tiles: after them each lane holds the row of its round, and what follows leaves what v rounds write.
 use Rattle.std.proofs.Common.{◌≡◌, ℕ, zero, suc, ◌+◌, ◌-◌, ◌*◌, ◌/◌, ◌%◌, ◌<◌, ◌≤◌, true, List, [], ◌∷◌, ◌++◌, map}
-use Rattle.std.proofs.Common.{length, flat_map, refl, sym, ap, ◌∙◌, arith, inl, ⊎_elim, mul_comm}
+use Rattle.std.proofs.Common.{length, flat_map, refl, sym, ap, ◌∙◌, arith, inl, ⊎_elim, mul_comm, All, drop, subst}
+use Rattle.std.proofs.Common.{Bool, not}
 use Rattle.std.specs.Prelude.{slice_index}
-use Rattle.std.specs.List.{range_with_len}
+use Rattle.std.specs.List.{range_with_len, list_all}
 use Rattle.std.proofs.Math.Nat.{eq-or-lt_of_le}
 use Rattle.std.proofs.lemmas.Bool.{cases_lt}
 use Rattle.icode.specs.declared.action.Action.{Action}
 use Rattle.icode.specs.declared.action.Action.TheVariants.{Load, Tile}
-use Rattle.icode.specs.Actions.{array_start}
+use Rattle.icode.specs.Actions.{array_start, StepFits, step_of}
 use Rattle.icode.specs.Expression.{sum_numbers}
 use Rattle.icode.specs.Machine.{Local, effect, effects, whole_lines}
-use Rattle.icode.specs.Plain.{PlainOp, PlainProgram}
+use Rattle.icode.specs.Plain.{PlainOp, PlainProgram, Sum, Load}
 use Rattle.icode.specs.CodeLaws.Lanes.{Registers, lane_of, with_register}
 use Rattle.icode.proofs.CodeLaws.ByLane.{this_register, other_register, length-registers_after}
 use Rattle.icode.proofs.CodeLaws.Stores.{length-registers, load_by_lane}
 use Rattle.icode.proofs.CodeLaws.Tiles.{tile_by_lane, tile_elsewhere}
 use Rattle.fast_loops.specs.Places.{are_linear}
-use Rattle.fast_loops.specs.LoopLanes.Loads.{Loaded, load_at, load_tile, load_tiles}
-use Rattle.fast_loops.proofs.LoopLanes.LoadedRow.{row_word}
-use Rattle.fast_loops.proofs.LoopLanes.Tiled.{wide_acts, wide_follow, word-at}
+use Rattle.fast_loops.specs.LoopLanes.Loads.{Loaded, load_at, load_tile, load_tiles, are_loaded_rows, in_loaded_rows}
+use Rattle.fast_loops.specs.LoopLanes.Loads.{behind, are_loaded, in_tiles, in_loaded}
+use Rattle.fast_loops.proofs.LoopLanes.Orders.{row_word, row, row_values, acts_in, acts-append, values_follow}
+use Rattle.fast_loops.proofs.LoopLanes.Orders.{row_stays, group_fits, some_lanes}
+use Rattle.fast_loops.proofs.LoopLanes.Tiled.{wide_acts, wide_follow, word-at, AreLinearBy}
 use Rattle.fast_loops.proofs.LoopLanes.Wide.{moved}
+use Rattle.std.proofs.lemmas.List.FromFn.{get_or-map-range_with_len, length-map-range_with_len}
+use Rattle.fast_loops.specs.LoopLanes.Layers.{values_put, IsGroup, LeaveWrites, memory_by, steps_at, written}
+use Rattle.fast_loops.proofs.LoopLanes.FrontHeld.{AreHeld, values_in, HoldsBy, in_lanes, front_from}
+use Rattle.std.proofs.Math.Path.{fun_ext}
+use Rattle.std.proofs.lemmas.List.{drop-map, append_assoc}
+use Rattle.std.proofs.lemmas.List.Elements.{All-drop}
+use Rattle.fast_loops.specs.Rounds.{Stored}
+use Rattle.fast_loops.specs.LoopLanes.Rounds.{others, in_row, is_store}
+use Rattle.fast_loops.proofs.LoopLanes.ColumnsAre.{short-others, AreColumns, IsBefore, AreStored, columns_told}
+use Rattle.fast_loops.proofs.LoopLanes.ColumnsAre.{columns_from, tiles_of, numbers_low, numbers_apart, plain_before}
+use Rattle.fast_loops.proofs.LoopLanes.ColumnsAre.{plain_stored, factored_before, factored_stored, factored_linear}
+use Rattle.fast_loops.proofs.LoopLanes.LoadsTold.{AreLoadedRows, of_loaded_rows, lanes_few, rest_fresh, IsLoaded}
+use Rattle.fast_loops.proofs.LoopLanes.LoadsTold.{of_loaded, front_many}
+use Rattle.fast_loops.proofs.LoopLanes.RowsAre.{lane_writes, no_writes, rows_from, rows_in_lanes, rows_after, held_same}
+use Rattle.std.proofs.lemmas.List.Sums.{AllPass-from_list_all, list_all-from_AllPass}
+use Rattle.fast_loops.specs.LoopLanes.Columns.{Columns, renumbered, plain_columns, factored_columns, are_by}
 
 module _ (v : ℕ) (p : PlainProgram) (from : Loaded) (vs : List ℕ) (b q : ℕ)
     (linear : are_linear 0 from.parts ≡ true) where
@@ -181,3 +200,240 @@ module _ (v : ℕ) (p : PlainProgram) (from : Loaded) (vs : List ℕ) (b q : ℕ
         memory = held.memory;
         put = λ l i below there. held.put l i (omega (arith, none)) (omega (arith, below, all, none)) there;
       }
+
+-- ---- what is held after the loads of a row
+
+module _ (v : ℕ) (p : PlainProgram) (from : Loaded) (vs : List ℕ) (b q m : ℕ) where
+  abbrev round_at : ℕ → List ℕ
+  round_at l = vs ++ (v * b + l) ∷ []
+
+  -- what round l puts by the row
+  abbrev pub row_in : List ℕ → ℕ → List ℕ
+  row_in memory l = values_put p.modulus memory [] (acts_in p (round_at l) q (row from 0 m))
+
+  row-is : (memory : List ℕ) (l : ℕ) →
+      row_in memory l ≡ map (λ i. slice_index memory (row_word p (round_at l) q from i)) (range_with_len 0 m)
+  row-is memory l = row_values p (round_at l) q from memory [] 0 m
+
+  -- and by what comes after it
+  pub values_first : (memory : List ℕ) (l : ℕ) (front rest : List PlainOp) → front ≡ row from 0 m ++ rest →
+      values_in v p memory front vs b q l
+      ≡ values_put p.modulus memory (row_in memory l) (acts_in p (round_at l) q rest)
+  values_first memory l front rest is =
+      ap (λ xs. values_put p.modulus memory [] (acts_in p (round_at l) q xs)) is
+      ∙ ap (values_put p.modulus memory []) (acts-append p (round_at l) q (row from 0 m) rest)
+      ∙ values_follow p.modulus memory [] (acts_in p (round_at l) q (row from 0 m)) (acts_in p (round_at l) q rest)
+
+  -- each lane holds the row of its round
+  pub row_held : (linear : are_linear 0 from.parts ≡ true) (f : ℕ → ℕ) → ((r : ℕ) → r < m → f r ≡ r) →
+      (s after : Local) → AreRows v p from vs b q linear m s after → AreHeld v f after.registers (row_in s.memory) m
+  row_held linear f stays s after rows =
+      record {
+        long = λ l below.
+            ap length (row-is s.memory l)
+            ∙ length-map-range_with_len (λ i. slice_index s.memory (row_word p (round_at l) q from i)) 0 m;
+        held = λ r l low below.
+            ap (lane_of v after.registers l) (stays r low)
+            ∙ rows.put l r low below
+            ∙ sym (ap (λ xs. slice_index xs r) (row-is s.memory l)
+            ∙ get_or-map-range_with_len (λ i. slice_index s.memory (row_word p (round_at l) q from i)) 0 m r r 0 low
+            (omega arith));
+      }
+
+-- ---- rows after the loads of a row leave what v rounds write
+
+-- ---- what comes after a row
+
+row_others : (from : Loaded) (k n : ℕ) (row_rest : List PlainOp) → n ≤ length (others (row from k n ++ row_rest))
+row_others from k zero row_rest = omega arith
+row_others from k (suc n) row_rest = let more = row_others from (k + 1) n row_rest in omega (arith, more)
+
+-- loads write nothing
+row-silent : (v : ℕ) (p : PlainProgram) (f : ℕ → ℕ) (vs : List ℕ) (b q : ℕ) (values : ℕ → List ℕ) (from : Loaded)
+    (k n : ℕ) (row_rest : List PlainOp) →
+    lane_writes v p f vs b q values (row from k n ++ row_rest) ≡ lane_writes v p f vs b q values row_rest
+row-silent v p f vs b q values from k zero row_rest = refl
+row-silent v p f vs b q values from k (suc n) row_rest =
+    ap (λ ws. ws ++ lane_writes v p f vs b q values (row from (k + 1) n ++ row_rest))
+    (no_writes v p f vs b q values (Load k from.array (Sum k from.parts)) refl)
+    ∙ row-silent v p f vs b q values from (k + 1) n row_rest
+
+-- ---- the law
+
+module _ (v : ℕ) (p : PlainProgram) (to : Stored) (ops : List PlainOp) (vs : List ℕ) (b q : ℕ)
+    (group : IsGroup v p to ops vs b q) (from : Loaded) (m : ℕ)
+    (known : AreLoadedRows v (length vs) to ops from m) where
+  abbrev keep : ℕ → ℕ
+  keep r = r
+
+  abbrev row_rest : List PlainOp
+  row_rest = drop m ops
+
+  abbrev row_loads : List PlainOp
+  row_loads = load_tiles v (2 * p.regs) (length vs) from m
+
+  abbrev wide : List PlainOp
+  wide = map (in_row v (length vs)) row_rest
+
+  row_some : 0 < v
+  row_some = some_lanes v group.lanes
+
+  -- the registers of the row are the program's
+  pub row_few : m ≤ p.regs
+  row_few =
+      let room = short-others v p to ops vs b q group in
+      let all : m ≤ length (others ops) =
+      subst (λ xs. m ≤ length (others xs)) (sym known.first.row) (row_others from 0 m row_rest) in
+      omega (arith, room, all)
+
+  fits : (l : ℕ) → l < v → All (StepFits p) (steps_at p row_rest (vs ++ (v * b + l) ∷ []) q)
+  fits l below =
+      let ws : List ℕ = vs ++ (v * b + l) ∷ [] in
+      subst (All (StepFits p)) (drop-map (λ op. step_of p op ws q) m ops)
+      (All-drop (StepFits p) m (steps_at p ops ws q) (group_fits v p ops vs b q l below group.fits))
+
+  -- what round l puts by the row and then by the others
+  abbrev values_behind : List ℕ → ℕ → List ℕ
+  values_behind memory l =
+      values_put p.modulus memory (row_in v p from vs b q m memory l) (acts_in p (vs ++ (v * b + l) ∷ []) q row_rest)
+
+  -- the memory after loads and rows
+  left : (memory r : List ℕ) → 3 * p.regs * v ≤ length r →
+      memory_by p.modulus v (wide_acts v p to vs b q (row_loads ++ wide)) r memory
+      ≡ written memory (lane_writes v p keep vs b q (values_in v p memory ops vs b q) ops)
+  left memory r room =
+      let begun : Local = record { memory = memory; registers = r } in
+      let first : Local = effects p.modulus v (wide_acts v p to vs b q row_loads) begun in
+      let finals : ℕ → List ℕ = values_in v p memory ops vs b q in
+      let rows =
+      rows_held v p from vs b q known.first.linear (2 * p.regs) m begun row_some known.first.whole
+      (omega (arith, row_few))
+      (omega (arith, row_few, lanes_few v (length vs) to ops from m known.first row_some)) room in
+      let is =
+      rows_from v p keep vs b q to group.linear known.unit group.alone row_some
+      (λ r below. omega (arith, below)) (λ r k below under e. e) memory first (row_in v p from vs b q m memory) m
+      row_rest
+      (rest_fresh v (length vs) to ops from m known.first group.fresh) known.by_lane fits
+      (record {
+        room = omega (arith, room, length-registers p.modulus v (wide_acts v p to vs b q row_loads) begun);
+        alike = λ k outside. ap (λ ws. slice_index ws k) rows.memory;
+        held = row_held v p from vs b q m known.first.linear keep (λ r low. refl) begun first rows;
+      }) in
+      ap (λ (z : Local). z.memory) (wide_follow v p to vs b q row_loads wide begun)
+      ∙ ap (λ new. (effects p.modulus v (wide_acts v p to vs b q new) first).memory)
+      (rows_in_lanes v (length vs) row_rest)
+      ∙ is
+      ∙ ap (λ words. written words (lane_writes v p keep vs b q (values_behind memory) row_rest)) rows.memory
+      ∙ ap (λ values. written memory (lane_writes v p keep vs b q values row_rest))
+      (fun_ext (λ l. sym (values_first v p from vs b q m memory l ops row_rest known.first.row)))
+      ∙ sym (ap (written memory)
+      (ap (lane_writes v p keep vs b q finals) known.first.row ∙ row-silent v p keep vs b q finals from 0 m row_rest))
+
+pub loaded_rows_write : (v : ℕ) (p : PlainProgram) (to : Stored) (ops : List PlainOp) (vs : List ℕ) (b q : ℕ) →
+    IsGroup v p to ops vs b q → are_loaded_rows v (length vs) to ops ≡ true →
+    LeaveWrites v p (in_loaded_rows v p.regs (length vs) ops) ops vs b q
+loaded_rows_write v p to ops vs b q group h =
+    of_loaded_rows (λ new. LeaveWrites v p new ops vs b q) v p.regs (length vs) to ops h
+    (λ from m known r memory room.
+    rows_after v p ops vs b q memory _ (left v p to ops vs b q group from m known memory r room))
+
+-- ---- columns after the loads of a row leave what v rounds write
+
+module _ (v : ℕ) (p : PlainProgram) (to : Stored) (ops : List PlainOp) (vs : List ℕ) (b q : ℕ)
+    (group : IsGroup v p to ops vs b q) (c : Columns) (from : Loaded) (m : ℕ)
+    (known : IsLoaded v (length vs) to ops c from m) (before : IsBefore p c) where
+  abbrev front_at : ℕ → List ℕ
+  front_at l = vs ++ (v * b + l) ∷ []
+
+  abbrev f : ℕ → ℕ
+  f = renumbered p.regs c.turned
+
+  abbrev rest : List PlainOp
+  rest = drop m c.front
+
+  abbrev front_loads : List PlainOp
+  front_loads = load_tiles v (2 * p.regs) (length vs) from m
+
+  abbrev front_rest : List PlainOp
+  front_rest = in_lanes v (length vs) f rest
+
+  some : 0 < v
+  some = some_lanes v group.lanes
+
+  many : length c.front ≡ m + length rest
+  many = front_many v (length vs) to c.front from m known.first
+
+  told : AreColumns v (length vs) to ops (behind m c)
+  told = columns_told v (length vs) to ops (behind m c) known.columns
+
+  few : length c.turned ≤ length c.front
+  few = let few = told.few in omega (arith, few, many)
+
+  puts : list_all (λ op. not (is_store op)) rest ≡ true
+  puts =
+      let test : PlainOp → Bool = λ op. not (is_store op) in
+      list_all-from_AllPass test rest
+      (All-drop (λ op. test op ≡ true) m c.front (AllPass-from_list_all test c.front before.puts))
+
+  holds : (s : Local) → 3 * p.regs * v ≤ length s.registers → HoldsBy v p f (front_loads ++ front_rest) c.front vs b q s
+  holds s room =
+      let short = before.short in
+      let first : Local = effects p.modulus v (wide_acts v p to vs b q front_loads) s in
+      let last : Local = effects p.modulus v (wide_acts v p to vs b q front_rest) first in
+      let rows =
+      rows_held v p from vs b q known.first.linear (2 * p.regs) m s some known.first.whole (omega (arith, many, short))
+      (omega (arith, many, short, lanes_few v (length vs) to c.front from m known.first some)) room in
+      let all =
+      front_from v p f vs b q to (length c.front) group.alone
+      (numbers_low v p to ops vs b q c few before)
+      (numbers_apart v p to ops vs b q c before) s.memory first (row_in v p from vs b q m s.memory) m rest
+      (rest_fresh v (length vs) to c.front from m known.first before.fresh) told.front_by_lane puts
+      (omega (arith, many)) (omega (arith, room, length-registers p.modulus v (wide_acts v p to vs b q front_loads) s))
+      rows.memory
+      (row_held v p from vs b q m known.first.linear f (λ r low. row_stays p.regs m c.turned r known.high low)
+      s first rows) in
+      let split : effects p.modulus v (wide_acts v p to vs b q (front_loads ++ front_rest)) s ≡ last =
+      wide_follow v p to vs b q front_loads front_rest s in
+      let held : AreHeld v f last.registers (values_in v p s.memory c.front vs b q) (m + length rest) =
+      held_same v f last.registers
+      (λ l. values_put p.modulus s.memory (row_in v p from vs b q m s.memory l) (acts_in p (front_at l) q rest))
+      (values_in v p s.memory c.front vs b q) (m + length rest)
+      (λ l. values_first v p from vs b q m s.memory l c.front rest known.first.row) all.1 in
+      record {
+        memory = ap (λ (z : Local). z.memory) split ∙ all.0;
+        registers =
+            subst (λ (z : Local). AreHeld v f z.registers (values_in v p s.memory c.front vs b q) (length c.front))
+            (sym split)
+            (subst (AreHeld v f last.registers (values_in v p s.memory c.front vs b q)) (sym many) held);
+      }
+
+  pub tiles_write : AreLinearBy v p to vs b q c.by → AreStored v p to ops vs b q c →
+      LeaveWrites v p (in_tiles v p.regs (length vs) to c from m) ops vs b q
+  tiles_write linear_by stored =
+      subst (λ new. LeaveWrites v p new ops vs b q)
+      (append_assoc front_loads front_rest (tiles_of v p to ops vs b q group c))
+      (columns_from v p to ops vs b q c (front_loads ++ front_rest) group told.turned few before holds linear_by stored)
+
+-- ---- the laws
+
+module _ (v : ℕ) (p : PlainProgram) (to : Stored) (ops : List PlainOp) (vs : List ℕ) (b q : ℕ)
+    (group : IsGroup v p to ops vs b q) where
+  pub loaded_write : are_loaded v (length vs) to ops (plain_columns ops) ≡ true →
+      LeaveWrites v p (in_loaded v p.regs (length vs) to (plain_columns ops)) ops vs b q
+  loaded_write h =
+      of_loaded (λ new. LeaveWrites v p new ops vs b q) v p.regs (length vs) to ops (plain_columns ops) h
+      (λ from m known.
+      tiles_write v p to ops vs b q group (plain_columns ops) from m known (plain_before v p to ops vs b q group) tt
+      (plain_stored v p to ops vs b q group))
+
+  pub loaded_factored_write : are_by v (length vs) ops (factored_columns ops).by ≡ true →
+      are_loaded v (length vs) to ops (factored_columns ops) ≡ true →
+      LeaveWrites v p (in_loaded v p.regs (length vs) to (factored_columns ops)) ops vs b q
+  loaded_factored_write by h =
+      let c : Columns = factored_columns ops in
+      of_loaded (λ new. LeaveWrites v p new ops vs b q) v p.regs (length vs) to ops c h
+      (λ from m known.
+      tiles_write v p to ops vs b q group c from m known (factored_before v p to ops vs b q group by)
+      (factored_linear v p to ops vs b q group by)
+      (factored_stored v p to ops vs b q group by
+      (columns_told v (length vs) to ops (behind m c) known.columns).turned.many))

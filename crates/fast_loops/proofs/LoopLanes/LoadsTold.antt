@@ -1,32 +1,238 @@
--- What the test of a round that loads a row tells of it.
-use Rattle.std.proofs.Common.{◌≡◌, ℕ, zero, suc, ◌+◌, ◌*◌, ◌/◌, ◌%◌, ◌<◌, ◌≤◌, true, false, not, List, ◌++◌, All}
-use Rattle.std.proofs.Common.{Contains, Option, Some, None, length, map, drop, sym, ap, ◌∙◌, subst, arith, eqb-true}
-use Rattle.std.proofs.Common.{ltb-true, length-append}
-use Rattle.std.specs.Prelude.{◌==◌, ◌&&◌, nat_le, nat_lt}
+-- What the tests of columns and of loads tell of a round that can be laned.
+use Rattle.fast_loops.proofs.Bools.{three_true}
+use Rattle.std.proofs.Common.{◌≡◌, ℕ, suc, ◌+◌, ◌<◌, ◌≤◌, true, false, not, ◌&&◌, List, [], ◌∷◌, All, Contains, length}
+use Rattle.std.proofs.Common.{refl, ap, ap₂, ◌∙◌, subst, arith, inl, inr, eqb-true, ◌*◌, Option, Some, None, Bool, map}
+use Rattle.std.proofs.Common.{zero, ◌/◌, ◌%◌, ◌++◌, drop, sym, ltb-true, length-append}
+use Rattle.std.specs.Prelude.{◌==◌, nat_lt, ◌||◌, if◌then◌else◌, nat_le}
 use Rattle.std.specs.List.{list_all, range_with_len}
-use Rattle.std.proofs.lemmas.Bool.{not-true}
-use Rattle.std.proofs.lemmas.List.Elements.{All-drop, Contains-append_left}
-use Rattle.std.proofs.lemmas.List.FromFn.{length-map-range_with_len}
-use Rattle.icode.specs.Limits.{is_small}
-use Rattle.icode.specs.Plain.{PlainOp, Sum, Load}
+use Rattle.std.proofs.lemmas.Bool.{cases_eq, not-true}
+use Rattle.std.proofs.lemmas.List.Elements.{All-head, All-tail, All-filter, All-contains, All-take, All-drop}
+use Rattle.std.proofs.lemmas.List.Elements.{Contains-append_left}
+use Rattle.std.proofs.lemmas.List.Sums.{AllPass-from_list_all}
+use Rattle.icode.specs.declared.program.Array.{Array}
+use Rattle.icode.specs.Plain.{PlainParts, PlainOp, Sum, Store, MulTable, Load}
 use Rattle.icode.proofs.Bools.{both_true}
-use Rattle.icode.proofs.Lines.{Contains-map, Contains-range}
-use Rattle.fast_loops.specs.Places.{are_linear, stride}
+use Rattle.fast_loops.specs.Places.{same_parts, are_linear, stride}
 use Rattle.fast_loops.specs.Rounds.{Stored, same_array, are_fresh}
-use Rattle.fast_loops.specs.LoopLanes.Columns.{Columns, are_columns, plain_columns, factored_columns, in_columns}
-use Rattle.fast_loops.specs.LoopLanes.Lanes.{can_lane, laned_ops}
-use Rattle.fast_loops.specs.LoopLanes.Rounds.{straight, others, stored_constants, is_by_lane, are_clear, in_row}
-use Rattle.fast_loops.specs.LoopLanes.Loads.{Loaded, first_load, row_length, are_whole, are_rows_behind, are_rows_from}
-use Rattle.fast_loops.specs.LoopLanes.Loads.{are_loaded_rows, behind, are_behind, are_loaded_from, are_loaded}
-use Rattle.fast_loops.specs.LoopLanes.Loads.{load_tiles, in_loaded_rows_from, in_loaded_rows, in_tiles, in_loaded_from}
-use Rattle.fast_loops.specs.LoopLanes.Loads.{in_loaded}
-use Rattle.fast_loops.proofs.Linear.{wrong}
-use Rattle.fast_loops.proofs.LoopLanes.ColumnsAre.{columns_told}
-use Rattle.fast_loops.proofs.LoopLanes.Kinds.{of_kinds}
-use Rattle.fast_loops.proofs.LoopLanes.LoadedRow.{row, row_first, row_fresh}
-use Rattle.fast_loops.proofs.LoopLanes.Parts.{IsOther, others_are}
-use Rattle.fast_loops.proofs.LoopLanes.Tests.{AreGood, AreMultiplied, plain_good, factored_good, factored_front}
-use Rattle.fast_loops.proofs.LoopLanes.Tests.{factored_short, multiplied_by}
+use Rattle.fast_loops.proofs.Linear.{wrong, parts_equal}
+use Rattle.fast_loops.proofs.Members.{all_of_members}
+use Rattle.fast_loops.specs.LoopLanes.Rounds.{is_store, stores, others, stored_constants, are_from, is_by_lane}
+use Rattle.fast_loops.specs.LoopLanes.Rounds.{are_rows, in_row, straight, are_clear}
+use Rattle.fast_loops.specs.LoopLanes.Columns.{Factors, are_products, factored_registers, Columns, first_factors}
+use Rattle.fast_loops.specs.LoopLanes.Columns.{front_length, last_products, plain_columns, factored_columns, are_by}
+use Rattle.fast_loops.specs.LoopLanes.Columns.{are_plain_columns, are_factored_columns, in_columns, are_columns}
+use Rattle.fast_loops.proofs.LoopLanes.Arrays.{array_same}
+use Rattle.fast_loops.proofs.LoopLanes.Orders.{others_put, row, row_first, row_fresh}
+use Rattle.fast_loops.proofs.LoopLanes.FrontCovered.{IsStored, IsMultiplied}
+use Rattle.std.proofs.lemmas.List.{length-take}
+use Rattle.icode.specs.Limits.{is_small}
+use Rattle.fast_loops.proofs.LoopLanes.ColumnsAre.{AreColumns, columns_told, by_told}
+use Rattle.fast_loops.specs.LoopLanes.Lanes.{can_by_lane, by_lane_ops, can_lane, laned_ops}
+use Rattle.fast_loops.specs.LoopLanes.Loads.{are_loaded_rows, are_loaded, can_load, in_loaded_rows, in_loaded}
+use Rattle.fast_loops.specs.LoopLanes.Loads.{loaded_ops, Loaded, first_load, row_length, are_whole, are_rows_behind}
+use Rattle.fast_loops.specs.LoopLanes.Loads.{are_rows_from, behind, are_behind, are_loaded_from, load_tiles}
+use Rattle.fast_loops.specs.LoopLanes.Loads.{in_loaded_rows_from, in_tiles, in_loaded_from}
+use Rattle.std.proofs.lemmas.List.FromFn.{length-map-range_with_len}
+use Rattle.icode.proofs.Lines.{Contains-map, Contains-range}
+
+-- ---- operations that store, and others
+
+-- an operation of the round, that is no store
+abbrev pub IsOther : List PlainOp → PlainOp → Type 0
+IsOther ops op = Contains ops op × (is_store op ≡ false)
+
+pub members : (ops : List PlainOp) → All (Contains ops) (others ops)
+members ops =
+    All-filter (λ op. not (is_store op)) (Contains ops) ops (all_of_members (Contains ops) ops (λ op has. has))
+
+pub others_are : (ops : List PlainOp) → All (IsOther ops) (others ops)
+others_are ops =
+    let puts = AllPass-from_list_all (λ op. not (is_store op)) (others ops) (others_put ops) in
+    all_of_members (IsOther ops) (others ops) (λ op has. (
+      All-contains (Contains ops) (others ops) op (members ops) has,
+      not-true (is_store op) (All-contains (λ op. not (is_store op) ≡ true) (others ops) op puts has),
+    ))
+
+-- ---- constants
+
+-- the test of a store tells where it stores
+stored-at : (loop : ℕ) (to : Stored) (array : Array) (constant : ℕ) (parts : PlainParts) (r : ℕ) (all : List PlainOp)
+    (c : ℕ) →
+    is_by_lane loop to (Store array (Sum constant parts) r) ≡ true → constant ≡ c →
+    Contains all (Store array (Sum constant parts) r) → IsStored to all c
+stored-at loop to array constant parts r all c h same has =
+    let two = both_true (same_array array to.array) (same_parts parts to.parts) h in
+    let is : Store array (Sum constant parts) r ≡ Store to.array (Sum c to.parts) r =
+    ap₂ (λ a parts. Store a (Sum constant parts) r) (array_same array to.array two.0) (parts_equal parts to.parts two.1)
+    ∙ ap (λ n. Store to.array (Sum n to.parts) r) same in
+    record { register = r; has = subst (Contains all) is has }
+
+stored-from : (loop : ℕ) (to : Stored) (all : List PlainOp) (k : ℕ) (ops : List PlainOp) → All (Contains all) ops →
+    are_from k (stored_constants ops) ≡ true →
+    list_all (is_by_lane loop to) (stores ops) ≡ true → (c : ℕ) → k ≤ c → c < k + length (stores ops) →
+    IsStored to all c
+stored-from loop to all k [] has from by_lane c low high = absurd (omega (arith, low, high))
+stored-from loop to all k (Store array (Sum constant parts) r ∷ ops) has from by_lane c low high =
+    let here = both_true (constant == k) (are_from (k + 1) (stored_constants ops)) from in
+    let told =
+    both_true (is_by_lane loop to (Store array (Sum constant parts) r))
+    (list_all (is_by_lane loop to) (stores ops)) by_lane in
+    let is : constant ≡ k = eqb-true constant k here.0 in
+    elim (cases_eq k c) [
+      | inl same ↦ stored-at loop to array constant parts r all c told.0 (is ∙ same)
+          (All-head (Contains all) (Store array (Sum constant parts) r) ops has)
+      | inr other ↦
+          stored-from loop to all (k + 1) ops
+          (All-tail (Contains all) (Store array (Sum constant parts) r) ops has) here.1 told.1 c
+          (omega (arith, low, other)) (omega (arith, high))
+    ]
+stored-from loop to all k (op ∷ ops) has from by_lane c low high =
+    stored-from loop to all k ops (All-tail (Contains all) op ops has) from by_lane c low high
+
+-- stores one after the other, each into a word of its own
+pub stored_each : (loop : ℕ) (to : Stored) (ops : List PlainOp) → are_from 0 (stored_constants ops) ≡ true →
+    list_all (is_by_lane loop to) (stores ops) ≡ true →
+    (c : ℕ) → c < length (stores ops) → IsStored to ops c
+stored_each loop to ops from by_lane c lt =
+    stored-from loop to ops 0 ops (all_of_members (Contains ops) ops (λ op has. has)) from by_lane c (omega arith)
+    (omega (arith, lt))
+
+-- ---- factors
+
+multiplied-from : (by : Factors) (bound : ℕ) (all : List PlainOp) (k : ℕ) (ops : List PlainOp) →
+    All (Contains all) ops → are_products by bound k ops ≡ true →
+    (c : ℕ) → k ≤ c → c < k + length ops → IsMultiplied by all c
+multiplied-from by bound all k [] has products c low high = absurd (omega (arith, low, high))
+multiplied-from by bound all k (MulTable r x table (Sum constant parts) step ∷ ops) has products c low high =
+    let two =
+    both_true (nat_lt x bound &&
+    ((table == by.table) && ((constant == by.constant + k) && same_parts parts by.parts)))
+    (are_products by bound (k + 1) ops) products in
+    let more = both_true (table == by.table) _ (both_true (nat_lt x bound) _ two.0).1 in
+    let last = both_true (constant == by.constant + k) (same_parts parts by.parts) more.1 in
+    let first : PlainOp = MulTable r x table (Sum constant parts) step in
+    let is : first ≡ MulTable r x by.table (Sum (by.constant + k) by.parts) step =
+    ap₂ (λ t parts. MulTable r x t (Sum constant parts) step)
+    (eqb-true table by.table more.0) (parts_equal parts by.parts last.1)
+    ∙ ap (λ n. MulTable r x by.table (Sum n by.parts) step) (eqb-true constant (by.constant + k) last.0) in
+    elim (cases_eq k c) [
+      | inl same ↦
+          record {
+            register = r;
+            source = x;
+            step = step;
+            has =
+                subst (λ n. Contains all (MulTable r x by.table (Sum (by.constant + n) by.parts) step)) same
+                (subst (Contains all) is (All-head (Contains all) first ops has));
+          }
+      | inr other ↦
+          multiplied-from by bound all (k + 1) ops
+          (All-tail (Contains all) (MulTable r x table (Sum constant parts) step) ops has) two.1 c
+          (omega (arith, low, other)) (omega (arith, high))
+    ]
+multiplied-from by bound all k (op ∷ ops) has products c low high = wrong products
+
+-- as many registers as products
+pub as_many_products : (by : Factors) (bound k : ℕ) (ops : List PlainOp) → are_products by bound k ops ≡ true →
+    length (factored_registers ops) ≡ length ops
+as_many_products by bound k [] h = refl
+as_many_products by bound k (MulTable r x table (Sum constant parts) step ∷ ops) h =
+    ap suc (as_many_products by bound (k + 1) ops (both_true _ (are_products by bound (k + 1) ops) h).1)
+as_many_products by bound k (op ∷ ops) h = wrong h
+
+-- ---- what the tests of a round that can be laned tell of it
+
+-- ---- columns
+
+-- the rounds multiply by m entries of a table
+pub record AreFactors (v loop : ℕ) (ops : List PlainOp) (by : Factors) (m : ℕ) : Type 0 where
+  pub linear : are_linear 0 by.parts ≡ true
+  pub each : (k : ℕ) → k < m → IsMultiplied by ops k
+  pub small : is_small (by.constant + (length (stores ops) + v * stride loop by.parts)) ≡ true
+
+-- if by any
+abbrev pub AreMultiplied : ℕ → ℕ → List PlainOp → Option Factors → ℕ → Type 0
+AreMultiplied v loop ops None m = Unit {0}
+AreMultiplied v loop ops (Some by) m = AreFactors v loop ops by m
+
+-- columns of a round that pass the tests
+pub record AreGood (v loop : ℕ) (to : Stored) (ops : List PlainOp) (c : Columns) : Type 0 where
+  pub columns : AreColumns v loop to ops c
+  pub front : All (IsOther ops) c.front
+  pub short : length c.front ≤ length (others ops)
+  pub factors : AreMultiplied v loop ops c.by (length c.turned)
+
+pub multiplied_by : (v loop : ℕ) (ops : List PlainOp) (factors : Option Factors) → are_by v loop ops factors ≡ true →
+    AreMultiplied v loop ops factors (length (factored_registers (last_products ops)))
+multiplied_by v loop ops None h = wrong h
+multiplied_by v loop ops (Some by) h =
+    let told = by_told v loop ops by h in
+    let many = as_many_products by (front_length ops) 0 (last_products ops) told.products in
+    record {
+      linear = told.linear;
+      each = λ k lt.
+          multiplied-from by (front_length ops) ops 0 (last_products ops)
+          (All-drop (Contains ops) (front_length ops) (others ops) (members ops)) told.products k (omega arith)
+          (omega (arith, many, lt));
+      small = told.small;
+    }
+
+-- the operations before the products
+pub factored_front : (ops : List PlainOp) → All (IsOther ops) (factored_columns ops).front
+factored_front ops = All-take (IsOther ops) (front_length ops) (others ops) (others_are ops)
+
+pub factored_short : (ops : List PlainOp) → length (factored_columns ops).front ≤ length (others ops)
+factored_short ops = let short = length-take (front_length ops) (others ops) in omega (arith, short)
+
+pub factored_good : (v loop : ℕ) (to : Stored) (ops : List PlainOp) → are_factored_columns v loop to ops ≡ true →
+    AreGood v loop to ops (factored_columns ops)
+factored_good v loop to ops h =
+    let two = both_true (are_by v loop ops (first_factors (last_products ops))) _ h in
+    record {
+      columns = columns_told v loop to ops (factored_columns ops) two.1;
+      front = factored_front ops;
+      short = factored_short ops;
+      factors = multiplied_by v loop ops (first_factors (last_products ops)) two.0;
+    }
+
+-- ---- the ways in which rounds become lanes: what holds of each, where its test passes, holds of what they become
+
+-- what holds of two things, each where its test passes, holds of the first whose test passes
+of_either : {X : Type 0} (P : X → Type 0) (a c : Bool) (x y : X) → (a || c) ≡ true →
+    (a ≡ true → P x) → (c ≡ true → P y) → P (if a then x else y)
+of_either P true c x y h first second = first refl
+of_either P false c x y h first second = second h
+
+-- what holds of three
+of_three : {X : Type 0} (P : X → Type 0) (a c d : Bool) (x y z : X) → (a || (c || d)) ≡ true →
+    (a ≡ true → P x) → (c ≡ true → P y) → (d ≡ true → P z) → P (if a then x else if c then y else z)
+of_three P a c d x y z h first second third =
+    of_either P a (c || d) x (if c then y else z) h first (λ more. of_either P c d y z more second third)
+
+-- rows, columns and factored columns, where all loads are by lane, and where rows are loaded
+pub of_kinds : (P : List PlainOp → Type 0) (v n loop : ℕ) (to : Stored) (ops : List PlainOp) →
+    can_lane v loop (Some to) ops ≡ true →
+    (are_rows v loop to ops ≡ true → P (map (in_row v loop) ops)) →
+    (are_plain_columns v loop to ops ≡ true → P (in_columns v n loop to (plain_columns ops))) →
+    (are_factored_columns v loop to ops ≡ true → P (in_columns v n loop to (factored_columns ops))) →
+    (are_loaded_rows v loop to ops ≡ true → P (in_loaded_rows v n loop ops)) →
+    (are_loaded v loop to ops (plain_columns ops) ≡ true → P (in_loaded v n loop to (plain_columns ops))) →
+    (are_by v loop ops (factored_columns ops).by ≡ true → are_loaded v loop to ops (factored_columns ops) ≡ true →
+    P (in_loaded v n loop to (factored_columns ops))) →
+    P (laned_ops v n loop (Some to) ops)
+of_kinds P v n loop to ops can rows plain factored loaded_rows loaded loaded_factored =
+    of_either P (can_by_lane v loop to ops) (can_load v loop to ops) (by_lane_ops v n loop to ops)
+    (loaded_ops v n loop to ops) (both_true (are_linear 0 to.parts) _ can).1
+    (λ by_lane. of_three P (are_rows v loop to ops) (are_plain_columns v loop to ops)
+    (are_factored_columns v loop to ops) (map (in_row v loop) ops) (in_columns v n loop to (plain_columns ops))
+    (in_columns v n loop to (factored_columns ops)) by_lane rows plain factored)
+    (λ loads. of_three P (are_loaded_rows v loop to ops) (are_loaded v loop to ops (plain_columns ops)) _
+    (in_loaded_rows v n loop ops) (in_loaded v n loop to (plain_columns ops))
+    (in_loaded v n loop to (factored_columns ops)) loads loaded_rows loaded
+    (λ both.
+    let two = both_true (are_by v loop ops (factored_columns ops).by) _ both in loaded_factored two.0 two.1))
+
+-- ---- what the test of a round that loads a row tells of it
 
 -- operations that begin with the loads of a row of m words
 pub record IsRow (v loop : ℕ) (to : Stored) (front : List PlainOp) (from : Loaded) (m : ℕ) : Type 0 where
@@ -102,11 +308,6 @@ of_loaded_rows P v n loop to ops h each = by (first_load ops) h
     by (Some from) h =
         let m : ℕ = row_length from 0 ops in each from m (rows-told v loop to ops from m (row_first from ops) h)
 
-pub from_loaded_rows : (P : Type 0) (v loop : ℕ) (to : Stored) (ops : List PlainOp) →
-    are_loaded_rows v loop to ops ≡ true →
-    ((from : Loaded) (m : ℕ) → AreLoadedRows v loop to ops from m → P) → P
-from_loaded_rows P v loop to ops h each = of_loaded_rows (λ ops. P) v 0 loop to ops h each
-
 -- what holds of columns after each row holds of what becomes of the round
 pub of_loaded : (P : List PlainOp → Type 0) (v n loop : ℕ) (to : Stored) (ops : List PlainOp) (c : Columns) →
     are_loaded v loop to ops c ≡ true →
@@ -119,12 +320,6 @@ of_loaded P v n loop to ops c h each = by (first_load c.front) h
     by (Some from) h =
         let m : ℕ = row_length from 0 c.front in
         each from m (behind-told v loop to ops c from m (row_first from c.front) h)
-
--- and what follows whatever the row is
-pub from_loaded : (P : Type 0) (v loop : ℕ) (to : Stored) (ops : List PlainOp) (c : Columns) →
-    are_loaded v loop to ops c ≡ true →
-    ((from : Loaded) (m : ℕ) → IsLoaded v loop to ops c from m → P) → P
-from_loaded P v loop to ops c h each = of_loaded (λ ops. P) v 0 loop to ops c h each
 
 -- ---- rows
 
@@ -171,7 +366,8 @@ module _ (v loop : ℕ) (to : Stored) (front : List PlainOp) (from : Loaded) (m 
 -- what holds of rows and of columns, and of these after a row that is loaded, holds of what becomes of the round
 pub of_good_kinds : (P : List PlainOp → Type 0) (v n loop : ℕ) (to : Stored) (ops : List PlainOp) →
     can_lane v loop (Some to) ops ≡ true →
-    (stride loop to.parts ≡ 1 → list_all (is_by_lane loop to) ops ≡ true → P (map (in_row v loop) ops)) →
+    (stride loop to.parts ≡ 1 → list_all (is_by_lane loop to) ops ≡ true → are_clear v (stored_constants ops) ≡ true →
+    P (map (in_row v loop) ops)) →
     ((c : Columns) → AreGood v loop to ops c → P (in_columns v n loop to c)) →
     ((from : Loaded) (m : ℕ) → AreLoadedRows v loop to ops from m →
     P (load_tiles v (2 * n) loop from m ++ map (in_row v loop) (drop m ops))) →
@@ -181,9 +377,16 @@ pub of_good_kinds : (P : List PlainOp → Type 0) (v n loop : ℕ) (to : Stored)
 of_good_kinds P v n loop to ops can rows columns loaded_rows loaded =
     of_kinds P v n loop to ops can
     (λ h.
-    let two = both_true (stride loop to.parts == 1) _ h in
-    rows (eqb-true (stride loop to.parts) 1 two.0) (both_true (list_all (is_by_lane loop to) ops) _ two.1).0)
-    (λ h. columns (plain_columns ops) (plain_good v loop to ops h))
+    let more = three_true (stride loop to.parts == 1) (list_all (is_by_lane loop to) ops) _ h in
+    rows (eqb-true (stride loop to.parts) 1 more.0) more.1 more.2)
+    (λ h.
+    columns (plain_columns ops)
+    (record {
+      columns = columns_told v loop to ops (plain_columns ops) h;
+      front = others_are ops;
+      short = omega arith;
+      factors = tt;
+    }))
     (λ h. columns (factored_columns ops) (factored_good v loop to ops h))
     (λ h. of_loaded_rows P v n loop to ops h loaded_rows)
     (λ h. behind_row (plain_columns ops) h (others_are ops) (omega arith) tt)

@@ -1,40 +1,111 @@
 -- A round of v lanes stands for a group of v rounds, from the laws on what they write.
-use Rattle.std.proofs.Common.{◌≡◌, ℕ, zero, suc, ◌+◌, ◌-◌, ◌*◌, ◌<◌, ◌≤◌, true, not, List, [], ◌∷◌, All, Contains, ◌++◌}
-use Rattle.std.proofs.Common.{Option, Some, None, map, drop, flat_map, length, refl, sym, ap, ◌∙◌, arith, inl, inr}
-use Rattle.std.proofs.Common.{length-append, mul-le-mul_left, ⊎_elim}
-use Rattle.std.specs.Prelude.{◌/◌}
-use Rattle.std.specs.List.{range_with_len, list_all}
+use Rattle.std.proofs.Common.{◌≡◌, ℕ, ◌+◌, ◌*◌, ◌/◌, ◌<◌, true, List, [], ◌∷◌, All, Contains, map, flat_map, length}
+use Rattle.std.proofs.Common.{sym, subst, arith, zero, suc, ◌-◌, ◌≤◌, not, ◌++◌, Option, Some, None, drop, refl, ap}
+use Rattle.std.proofs.Common.{◌∙◌, inl, inr, length-append, mul-le-mul_left, ⊎_elim}
+use Rattle.std.specs.List.{list_all, range_with_len}
+use Rattle.std.proofs.lemmas.List.Concat.{flat_map_single}
+use Rattle.std.proofs.lemmas.List.Elements.{All-nil, All-cons, All-append, All-map, All-contains, All-drop}
+use Rattle.std.proofs.lemmas.List.Sums.{AllPass-from_list_all}
+use Rattle.icode.specs.Plain.{PlainOp, Store, Tile, PlainProgram}
+use Rattle.fast_loops.specs.Rounds.{Stored}
+use Rattle.fast_loops.proofs.Rows.{of-loop}
+use Rattle.fast_loops.proofs.Members.{all_of_members}
+use Rattle.fast_loops.specs.LoopLanes.Rounds.{is_by_lane, in_row, is_store, stores, others}
+use Rattle.fast_loops.specs.LoopLanes.Columns.{Columns, renumbered, renumbered_op, product_at, row_at, tile_at}
+use Rattle.fast_loops.specs.LoopLanes.Columns.{in_columns, Factors}
+use Rattle.fast_loops.specs.LoopLanes.Loads.{Loaded, load_at, load_tile, load_tiles, behind, in_tiles}
+use Rattle.fast_loops.proofs.LoopLanes.RowsAre.{rows_in_lanes}
+use Rattle.fast_loops.proofs.LoopLanes.Wide.{moved}
 use Rattle.std.proofs.Math.Nat.{div-mul-le_self}
 use Rattle.std.proofs.lemmas.List.{length-map}
-use Rattle.std.proofs.lemmas.List.Elements.{All-nil, All-cons, All-append, All-drop, All-contains}
 use Rattle.std.proofs.lemmas.List.FromFn.{length-map-range_with_len}
 use Rattle.std.proofs.lemmas.List.Filters.{length-filter_both}
 use Rattle.icode.specs.Actions.{Step, step_of}
-use Rattle.icode.specs.Plain.{PlainOp, PlainProgram, Tile}
 use Rattle.fast_loops.specs.Places.{stride}
-use Rattle.fast_loops.specs.Rounds.{Stored}
 use Rattle.fast_loops.proofs.Linear.{wrong}
-use Rattle.fast_loops.proofs.Members.{all_of_members}
-use Rattle.fast_loops.specs.LoopLanes.Rounds.{is_store, stores, others, is_by_lane, in_row}
-use Rattle.fast_loops.specs.LoopLanes.Columns.{Columns, Factors, renumbered, renumbered_op, product_at, row_at, tile_at}
-use Rattle.fast_loops.specs.LoopLanes.Columns.{in_columns}
 use Rattle.fast_loops.specs.LoopLanes.Lanes.{can_lane, laned_ops}
-use Rattle.fast_loops.specs.LoopLanes.Loads.{Loaded, behind, load_at, load_tile, load_tiles, in_tiles}
 use Rattle.fast_loops.specs.LoopLanes.Layers.{IsGroup, GroupsWrite, GroupsAreSure, LanesWrite, RoundsAreLanes}
 use Rattle.fast_loops.specs.LoopLanes.Layers.{group_writes, steps_at, group_at, on_lanes}
-use Rattle.fast_loops.proofs.LoopLanes.ColumnsAre.{short-others}
+use Rattle.fast_loops.proofs.LoopLanes.ColumnsAre.{short-others, renumbered_is}
 use Rattle.fast_loops.proofs.LoopLanes.Covered.{IsOpCovered, lanes_from}
-use Rattle.fast_loops.proofs.LoopLanes.Everywhere.{all_lanes, all_rows, all_loads, all_columns}
-use Rattle.fast_loops.proofs.LoopLanes.FrontCovered.{AreLow, front_covered}
-use Rattle.fast_loops.proofs.LoopLanes.LoadedRowsAre.{row_few}
-use Rattle.fast_loops.proofs.LoopLanes.LoadsTold.{IsRow, AreLoadedRows, of_good_kinds, loads_each, front_many}
+use Rattle.fast_loops.proofs.LoopLanes.FrontCovered.{AreLow, front_covered, IsStored, tile_covered, row_covered}
+use Rattle.fast_loops.proofs.LoopLanes.FrontCovered.{product_covered, load_covered}
+use Rattle.fast_loops.proofs.LoopLanes.LoadsHeld.{row_few}
+use Rattle.fast_loops.proofs.LoopLanes.LoadsTold.{IsRow, AreLoadedRows, of_good_kinds, loads_each, front_many, IsOther}
+use Rattle.fast_loops.proofs.LoopLanes.LoadsTold.{stored_each, AreGood, AreMultiplied}
 use Rattle.fast_loops.proofs.LoopLanes.Made.{tile_within}
 use Rattle.fast_loops.proofs.LoopLanes.Orders.{are_some, some_lanes}
-use Rattle.fast_loops.proofs.LoopLanes.Parts.{IsOther, stored_each}
-use Rattle.fast_loops.proofs.LoopLanes.Renumbered.{renumbered_is}
-use Rattle.fast_loops.proofs.LoopLanes.Tests.{AreGood, AreMultiplied}
-use Rattle.fast_loops.proofs.LoopLanes.TilesCovered.{IsStored, tile_covered, row_covered, product_covered, load_covered}
 use Rattle.fast_loops.proofs.LoopLanes.Writes.{order_is_free}
+
+module _ (P : PlainOp → Type 0) where
+  one : (op : PlainOp) → P op → All P (op ∷ [])
+  one op h = All-cons P op [] h (All-nil P)
+
+  -- ---- loops
+
+  all-rounds : (f : ℕ → List PlainOp) (n : ℕ) → ((i : ℕ) → i < n → All P (f i)) →
+      All P (flat_map f (range_with_len 0 n))
+  all-rounds f n each =
+      all_of_members P (flat_map f (range_with_len 0 n)) (λ op has.
+      let at = of-loop f 0 n op has in
+      let high = at.high in
+      All-contains P (f at.round) op (each at.round (omega (arith, high))) at.inside)
+
+  all-items : (f : ℕ → PlainOp) (n : ℕ) → ((i : ℕ) → i < n → P (f i)) → All P (map f (range_with_len 0 n))
+  all-items f n each =
+      subst (All P) (flat_map_single f (range_with_len 0 n))
+      (all-rounds (λ i. f i ∷ []) n (λ i low. one (f i) (each i low)))
+
+  -- ---- operations that are done in lanes
+
+  -- with other registers
+  pub all_lanes : (v loop : ℕ) (to : Stored) (f : ℕ → ℕ) (front : List PlainOp) →
+      list_all (is_by_lane loop to) front ≡ true →
+      ((op : PlainOp) → Contains front op → is_by_lane loop to op ≡ true → P (renumbered_op f (in_row v loop op))) →
+      All P (map (λ op. renumbered_op f (in_row v loop op)) front)
+  all_lanes v loop to f front by_lane each =
+      let lanes = AllPass-from_list_all (is_by_lane loop to) front by_lane in
+      All-map P (λ op. renumbered_op f (in_row v loop op)) front
+      (all_of_members (λ op. P (renumbered_op f (in_row v loop op))) front (λ op has.
+      each op has (All-contains (λ op. is_by_lane loop to op ≡ true) front op lanes has)))
+
+  -- with the same registers
+  pub all_rows : (v loop : ℕ) (to : Stored) (rows : List PlainOp) → list_all (is_by_lane loop to) rows ≡ true →
+      ((op : PlainOp) → Contains rows op → is_by_lane loop to op ≡ true →
+      P (renumbered_op (λ r. r) (in_row v loop op))) →
+      All P (map (in_row v loop) rows)
+  all_rows v loop to rows by_lane each =
+      subst (All P) (sym (rows_in_lanes v loop rows)) (all_lanes v loop to (λ r. r) rows by_lane each)
+
+  -- ---- tiles
+
+  pub all_loads : (v x loop : ℕ) (from : Loaded) (m : ℕ) →
+      ((g l : ℕ) → g < m / v → l < v → P (load_at v loop x from (g * v) l)) →
+      ((g : ℕ) → g < m / v → P (Tile (g * v) x)) → All P (load_tiles v x loop from m)
+  all_loads v x loop from m loads tiles =
+      all-rounds (λ g. load_tile v loop x from (g * v)) (m / v) (λ g there.
+      All-append P (map (load_at v loop x from (g * v)) (range_with_len 0 v)) (Tile (g * v) x ∷ [])
+      (all-items (load_at v loop x from (g * v)) v (λ l low. loads g l there low))
+      (one (Tile (g * v) x) (tiles g there)))
+
+  pub all_columns : (v n loop : ℕ) (to : Stored) (c : Columns) →
+      All P (map (λ op. renumbered_op (renumbered n c.turned) (in_row v loop op)) c.front) →
+      ((g : ℕ) → g < length c.turned / v → P (Tile (n + length c.turned + g * v) (n + g * v))) →
+      ((g l : ℕ) → g < length c.turned / v → l < v →
+      All P (product_at v loop c.by (n + length c.turned + g * v + l) (g * v) l)) →
+      ((g l : ℕ) → g < length c.turned / v → l < v →
+      P (Store to.array (moved v loop (g * v) to.parts l) (n + length c.turned + g * v + l))) →
+      All P (in_columns v n loop to c)
+  all_columns v n loop to c front tiles products stores =
+      let m : ℕ = length c.turned in
+      All-append P (map (λ op. renumbered_op (renumbered n c.turned) (in_row v loop op)) c.front) _ front
+      (all-rounds (λ g. tile_at v loop to c.by (n + m + g * v) (n + g * v) (g * v)) (m / v) (λ g there.
+      All-cons P (Tile (n + m + g * v) (n + g * v)) _ (tiles g there)
+      (all-rounds (row_at v loop to c.by (n + m + g * v) (g * v)) v (λ l low.
+      All-append P (product_at v loop c.by (n + m + g * v + l) (g * v) l) _ (products g l there low)
+      (one (Store to.array (moved v loop (g * v) to.parts l) (n + m + g * v + l)) (stores g l there low))))))
+
+-- ---- a round of v lanes stands for a group of v rounds, from the laws on what they write
 
 -- ---- how many steps there are
 
@@ -311,7 +382,7 @@ module _ (v : ℕ) (p : PlainProgram) (to : Stored) (ops : List PlainOp) (vs : L
       Cover (laned_ops v p.regs loop (Some to) ops) × AreFew (laned_ops v p.regs loop (Some to) ops)
   are_covered can =
       of_good_kinds (λ new. Cover new × AreFew new) v p.regs loop to ops can
-      (λ unit by_lane. (rows_covered ops unit by_lane (λ op has. has), rows_few))
+      (λ unit by_lane clear. (rows_covered ops unit by_lane (λ op has. has), rows_few))
       (λ c tests. (columns_covered c tests, columns_are_few c tests))
       (λ from m loaded. (row_covered_behind from m loaded, row_few_behind from m loaded))
       (λ c from m first front short tests.

@@ -1,4 +1,5 @@
 -- Rows: v rounds whose stores are of words one after the other are one round of v lanes.
+use Rattle.fast_loops.proofs.Bools.{three_true}
 use Rattle.std.proofs.Common.{◌≡◌, ℕ, zero, suc, ◌+◌, ◌*◌, ◌<◌, ◌≤◌, Bool, true, false, not, List, [], ◌∷◌, ◌++◌, All}
 use Rattle.std.proofs.Common.{Contains, map, flat_map, length, refl, sym, ap, ap₂, ◌∙◌, arith, subst, eqb-true}
 use Rattle.std.proofs.Common.{ltb-true, append-nil, ⊎_elim}
@@ -27,9 +28,8 @@ use Rattle.fast_loops.specs.LoopLanes.Layers.{Write, IsAfter, IsGroup, LeaveWrit
 use Rattle.fast_loops.specs.LoopLanes.Layers.{steps_at, group_writes, writes_of}
 use Rattle.fast_loops.specs.LoopLanes.Rounds.{straight, is_by_lane, is_store, are_rows, in_row, widened}
 use Rattle.fast_loops.proofs.LoopLanes.Arrays.{IsOutside, other_outside}
-use Rattle.fast_loops.proofs.LoopLanes.Held.{AreHeld, in_lanes, values_in}
+use Rattle.fast_loops.proofs.LoopLanes.FrontHeld.{AreHeld, in_lanes, values_in, put_next}
 use Rattle.fast_loops.proofs.LoopLanes.FrontHeld as lanes
-use Rattle.fast_loops.proofs.LoopLanes.FrontHeld.{put_next}
 use Rattle.fast_loops.proofs.LoopLanes.Orders.{group_fits, register_low, writes_split, members_turned, values_stay}
 use Rattle.fast_loops.proofs.LoopLanes.Orders.{some_lanes}
 use Rattle.fast_loops.proofs.LoopLanes.Wide.{wide_value}
@@ -339,14 +339,13 @@ pub rows_write : (v : ℕ) (p : PlainProgram) (to : Stored) (ops : List PlainOp)
     IsGroup v p to ops vs b q → are_rows v (length vs) to ops ≡ true →
     LeaveWrites v p (map (in_row v (length vs)) ops) ops vs b q
 rows_write v p to ops vs b q group are registers memory room =
-    let two = both_true (stride (length vs) to.parts == 1) _ are in
-    let by_lane = both_true (list_all (is_by_lane (length vs) to) ops) _ two.1 in
+    let by_lane = three_true (stride (length vs) to.parts == 1) (list_all (is_by_lane (length vs) to) ops) _ are in
     let acts : List PlainOp → List Action = λ new. actions_of (steps_at (on_lanes v p) new (vs ++ b ∷ []) q) in
     rows_after v p ops vs b q memory _
     (ap (λ new. memory_by p.modulus v (acts new) registers memory) (rows_in_lanes v (length vs) ops)
-    ∙ rows_from v p (λ r. r) vs b q to group.linear (eqb-true (stride (length vs) to.parts) 1 two.0) group.alone
+    ∙ rows_from v p (λ r. r) vs b q to group.linear (eqb-true (stride (length vs) to.parts) 1 by_lane.0) group.alone
     (some_lanes v group.lanes) (λ r below. omega (arith, below)) (λ r k below under e. e)
-    memory (record { memory = memory; registers = registers }) (λ l. []) 0 ops group.fresh by_lane.0
+    memory (record { memory = memory; registers = registers }) (λ l. []) 0 ops group.fresh by_lane.1
     (λ l below. group_fits v p ops vs b q l below group.fits)
     (record {
       room = room;

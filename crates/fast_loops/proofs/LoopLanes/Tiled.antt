@@ -20,7 +20,7 @@ use Rattle.fast_loops.specs.Places.{are_linear}
 use Rattle.fast_loops.specs.Rounds.{Stored}
 use Rattle.fast_loops.specs.LoopLanes.Columns.{Factors, row_at, tile_at}
 use Rattle.fast_loops.specs.LoopLanes.Layers.{Write, written, on_lanes}
-use Rattle.fast_loops.proofs.LoopLanes.RoundWrites.{acts_in, acts-append, entry_at}
+use Rattle.fast_loops.proofs.LoopLanes.Orders.{acts_in, acts-append, entry_at}
 use Rattle.fast_loops.proofs.LoopLanes.RowsAre.{words_written}
 use Rattle.fast_loops.proofs.LoopLanes.Wide.{moved, moved_value}
 use Rattle.fast_loops.proofs.LoopLanes.Writes.{written-append}

@@ -1,34 +1,40 @@
--- What the tests of lanes tell of the operations of rounds.
+-- What the tests of lanes tell of the operations of rounds: no word gets two values from the rounds of a group.
 use Rattle.std.proofs.Common.{◌≡◌, ℕ, zero, suc, ◌+◌, ◌<◌, ◌≤◌, true, false, List, [], ◌∷◌, ◌++◌, take, drop, All, Some}
-use Rattle.std.proofs.Common.{None, Option, refl, sym, ap, ap₂, ◌∙◌, subst, arith, ⊎_elim, take-append-drop}
-use Rattle.std.specs.Prelude.{◌==◌, slice_index}
-use Rattle.std.specs.List.{list_all}
-use Rattle.std.proofs.lemmas.Bool.{not-true}
-use Rattle.std.proofs.lemmas.List.Elements.{All-head, All-tail}
+use Rattle.std.proofs.Common.{None, Option, refl, sym, ap, ap₂, ◌∙◌, subst, arith, ⊎_elim, take-append-drop, ◌⊎◌, ◌*◌}
+use Rattle.std.proofs.Common.{Bool, length, Contains, inl, inr, leb-true}
+use Rattle.std.specs.Prelude.{◌==◌, slice_index, nat_le}
+use Rattle.std.specs.List.{list_all, range_with_len}
+use Rattle.std.proofs.lemmas.Bool.{not-true, or_cases, cases_order}
+use Rattle.std.proofs.lemmas.List.Elements.{All-head, All-tail, All-get_or}
 use Rattle.icode.specs.declared.program.Array.{Array}
 use Rattle.icode.specs.Actions.{Step, StepFits, actions_of, array_start, step_of, steps_of_body}
 use Rattle.icode.specs.Expression.{sum_numbers, parts_numbers}
 use Rattle.icode.specs.Machine.{whole_lines}
 use Rattle.icode.specs.Plain.{PlainOp, PlainProgram, Sum, Load, Store, Zero, MulTable, Tile}
 use Rattle.icode.proofs.Bools.{both_true}
-use Rattle.fast_loops.specs.Places.{stride, same_parts}
+use Rattle.fast_loops.specs.Places.{stride, same_parts, are_linear}
 use Rattle.fast_loops.specs.Rounds.{Stored, same_array, are_fresh}
 use Rattle.fast_loops.proofs.Acts.{IsRound}
 use Rattle.fast_loops.proofs.Linear.{wrong, parts_equal}
-use Rattle.fast_loops.proofs.Rows.{round_acts}
+use Rattle.fast_loops.proofs.Rows.{round_acts, of-loop, actions_of-loop}
 use Rattle.fast_loops.specs.LoopLanes.Rounds.{straight, is_by_lane, stores, others, stored_registers, stored_constants}
+use Rattle.fast_loops.specs.LoopLanes.Rounds.{are_from, is_clear, are_clear}
 use Rattle.fast_loops.specs.LoopLanes.Columns.{Columns, Factors, plain_columns, factored_columns, front_length}
 use Rattle.fast_loops.specs.LoopLanes.Columns.{last_products, are_products, are_by, are_columns}
 use Rattle.fast_loops.specs.LoopLanes.Lanes.{can_lane}
 use Rattle.fast_loops.specs.LoopLanes.Loads.{Loaded, behind, are_loaded}
-use Rattle.fast_loops.specs.LoopLanes.Layers.{Write, steps_at, writes_of}
-use Rattle.fast_loops.proofs.LoopLanes.Arrays.{IsOutside, other_outside}
-use Rattle.fast_loops.proofs.LoopLanes.ColumnsAre.{columns_told, by_told}
-use Rattle.fast_loops.proofs.LoopLanes.Kinds.{of_kinds}
-use Rattle.fast_loops.proofs.LoopLanes.LoadedRow.{row}
-use Rattle.fast_loops.proofs.LoopLanes.LoadsTold.{IsRow, from_loaded_rows, from_loaded}
-use Rattle.fast_loops.proofs.LoopLanes.OneLane.{IsPlaced, ArePlaced, IsLaneRound}
+use Rattle.fast_loops.specs.LoopLanes.Layers.{Write, steps_at, writes_of, GroupsAreSure, round_writes, group_writes}
+use Rattle.fast_loops.specs.LoopLanes.Layers.{memory_by, GroupsWrite}
+use Rattle.fast_loops.proofs.LoopLanes.Arrays.{other_outside, step_before}
+use Rattle.fast_loops.proofs.LoopLanes.ColumnsAre.{columns_told, by_told, AreTurned}
+use Rattle.fast_loops.proofs.LoopLanes.LoadsTold.{of_kinds, IsRow, of_loaded_rows, of_loaded, of_good_kinds}
+use Rattle.fast_loops.proofs.LoopLanes.Orders.{row, from_at, group_fits}
+use Rattle.fast_loops.proofs.LoopLanes.OneLane.{IsPlaced, ArePlaced, IsLaneRound, rounds_write}
 use Rattle.fast_loops.proofs.Apart.{array-same}
+use Rattle.std.proofs.lemmas.List.Sums.{AllPass-from_list_all}
+use Rattle.icode.proofs.Lines.{Contains-nil}
+use Rattle.fast_loops.proofs.LoopLanes.FrontHeld.{values_in}
+use Rattle.fast_loops.proofs.LoopLanes.Wide.{lane_value}
 
 -- ---- what holds of operations of all kinds
 
@@ -104,7 +110,7 @@ told-columns v loop to ops c h =
 told-loaded : (v loop : ℕ) (to : Stored) (ops : List PlainOp) (c : Columns) → are_loaded v loop to ops c ≡ true →
     AreTold to (stores ops) × AreTold to c.front
 told-loaded v loop to ops c h =
-    from_loaded (AreTold to (stores ops) × AreTold to c.front) v loop to ops c h (λ from m known.
+    of_loaded (λ new. AreTold to (stores ops) × AreTold to c.front) v 0 loop to ops c h (λ from m known.
     let told = columns_told v loop to ops (behind m c) known.columns in (
       told-all loop to (stores ops) told.turned.stores_by_lane,
       told-behind v loop to c.front from m known.first told.front_by_lane,
@@ -129,7 +135,7 @@ told v loop to ops h =
     (λ factored.
     let two = both_true (are_by v loop ops (factored_columns ops).by) _ factored in
     told-factored v loop to ops two.0 (told-columns v loop to ops (factored_columns ops) two.1))
-    (λ rows. from_loaded_rows (AreTold to ops) v loop to ops rows (λ from m known.
+    (λ rows. of_loaded_rows (λ new. AreTold to ops) v 0 loop to ops rows (λ from m known.
     told-behind v loop to ops from m known.first known.by_lane))
     (λ plain. let two = told-loaded v loop to ops (plain_columns ops) plain in told-split to ops two.0 two.1)
     (λ by factored. told-factored v loop to ops by (told-loaded v loop to ops (factored_columns ops) factored))
@@ -139,13 +145,6 @@ told v loop to ops h =
 -- the word stands in the array
 abbrev pub IsIn : ℕ → Array → ℕ → Type 0
 IsIn words a k = (array_start words a ≤ k) × (k < array_start words a + words)
-
-never-in : (words : ℕ) (array : Array) (k : ℕ) → IsOutside words array k → IsIn words array k → ⊥
-never-in words array k outside inside =
-    ⊎_elim
-    (λ (h : k < array_start words array). omega (arith, h, inside.0))
-    (λ (h : array_start words array + words ≤ k). omega (arith, h, inside.1))
-    outside
 
 -- ---- the actions of a round
 
@@ -161,8 +160,10 @@ placed-op p to (Load r array place) ws q alone is fits =
       fits.registers,
       λ into.
           let k : ℕ = array_start words array + (sum_numbers place ws q).value in
-          never-in words to.array k
-          (other_outside words array to.array k is (omega arith) (omega (arith, room, alone))) into,
+          ⊎_elim
+          (λ (before : k < array_start words to.array). omega (arith, before, into.0))
+          (λ (behind : array_start words to.array + words ≤ k). omega (arith, behind, into.1))
+          (other_outside words array to.array k is (omega arith) (omega (arith, room, alone))),
     )
 placed-op p to (Store array (Sum constant parts) r) ws q alone is fits =
     let words : ℕ = whole_lines p.size p.line in
@@ -229,3 +230,199 @@ writes_are p to (Store array (Sum constant parts) r ∷ ops) ws q zs is =
     (writes_are p to ops ws q zs is.1)
 writes_are p to (Tile r x ∷ ops) ws q zs is = absurd is.0
 writes_are p to (op ∷ ops) ws q zs is = writes_are p to ops ws q zs is.1
+
+-- ---- no word gets two values from the rounds of a group
+
+-- ---- a write of a list
+
+-- which store of the round it is
+pub record IsStoreOf (base : ℕ) (zs cs rs : List ℕ) (w : Write) : Type 0 where
+  pub index : ℕ
+  pub low : index < length cs
+  pub word : w.word ≡ base + slice_index cs index
+  pub value : w.value ≡ slice_index zs (slice_index rs index)
+
+pub store_of : (base : ℕ) (zs cs rs : List ℕ) (w : Write) →
+    Contains (stored_at base zs cs rs) w → IsStoreOf base zs cs rs w
+store_of base zs [] rs w h = absurd (Contains-nil w h)
+store_of base zs (c ∷ cs) [] w h = absurd (Contains-nil w h)
+store_of base zs (c ∷ cs) (r ∷ rs) w (zero, lt, e) =
+    record {
+      index = 0;
+      low = omega arith;
+      word = sym (ap (λ (x : Write). x.word) e);
+      value = sym (ap (λ (x : Write). x.value) e);
+    }
+store_of base zs (c ∷ cs) (r ∷ rs) w (suc k, lt, e) =
+    let is = store_of base zs cs rs w (k, omega (arith, lt), e) in
+    record { index = suc is.index; low = omega (arith, is.low); word = is.word; value = is.value }
+
+-- ---- constants
+
+passes-at : (test : ℕ → Bool) (ks : List ℕ) (i : ℕ) →
+    list_all test ks ≡ true → i < length ks → test (slice_index ks i) ≡ true
+passes-at test ks i all below =
+    All-get_or (λ k. test k ≡ true) ks i 0 below (AllPass-from_list_all test ks all)
+
+clear : (v a b : ℕ) → is_clear v a b ≡ true → (a + v ≤ b) ⊎ (b + v ≤ a)
+clear v a b h =
+    ⊎_elim
+    (λ (low : nat_le (a + v) b ≡ true). inl (leb-true (a + v) b low))
+    (λ (high : nat_le (b + v) a ≡ true). inr (leb-true (b + v) a high))
+    (or_cases (nat_le (a + v) b) (nat_le (b + v) a) h)
+
+clear-at : (v : ℕ) (cs : List ℕ) (i j : ℕ) → are_clear v cs ≡ true → i < j → j < length cs →
+    (slice_index cs i + v ≤ slice_index cs j) ⊎ (slice_index cs j + v ≤ slice_index cs i)
+clear-at v [] i j all less below = absurd (omega (arith, below))
+clear-at v (c ∷ cs) i zero all less below = absurd (omega (arith, less))
+clear-at v (c ∷ cs) zero (suc j) all less below =
+    let two = both_true (list_all (is_clear v c) cs) (are_clear v cs) all in
+    clear v c (slice_index cs j) (passes-at (is_clear v c) cs j two.0 (omega (arith, below)))
+clear-at v (c ∷ cs) (suc i) (suc j) all less below =
+    let two = both_true (list_all (is_clear v c) cs) (are_clear v cs) all in
+    clear-at v cs i j two.1 (omega (arith, less)) (omega (arith, below))
+
+-- of v rounds that go on by s, no two stores meet
+abbrev pub AreSpread : ℕ → ℕ → List ℕ → Type 0
+AreSpread v s cs =
+    (l k i j : ℕ) → l < v → k < v → i < length cs → j < length cs →
+    s * l + slice_index cs i ≡ s * k + slice_index cs j → (l ≡ k) × (i ≡ j)
+
+never : (v l k c d : ℕ) → l < v → k < v → l + c ≡ k + d → (c + v ≤ d) ⊎ (d + v ≤ c) → ⊥
+never v l k c d low lower same far =
+    ⊎_elim
+    (λ (h : c + v ≤ d). omega (arith, low, lower, same, h))
+    (λ (h : d + v ≤ c). omega (arith, low, lower, same, h))
+    far
+
+rows-spread : (v : ℕ) (cs : List ℕ) → are_clear v cs ≡ true → AreSpread v 1 cs
+rows-spread v cs all l k i j low lower i_low j_low same =
+    let steps : l + slice_index cs i ≡ k + slice_index cs j = omega (arith, same) in
+    elim (cases_order i j) [
+      | inl e ↦ let c : slice_index cs i ≡ slice_index cs j = ap (slice_index cs) e in (omega (arith, steps, c), e)
+      | inr (inl less) ↦
+          let far = clear-at v cs i j all less j_low in
+          absurd (never v l k (slice_index cs i) (slice_index cs j) low lower steps far)
+      | inr (inr more) ↦
+          let far = clear-at v cs j i all more i_low in
+          absurd (never v k l (slice_index cs j) (slice_index cs i) lower low (sym steps) far)
+    ]
+
+apart : (s l k i j : ℕ) → l < k → i < s → s * l + i ≡ s * k + j → ⊥
+apart s l k i j less low same =
+    let step = step_before s l k less in omega (arith, step, low, same)
+
+columns-spread : (v s : ℕ) (cs : List ℕ) → are_from 0 cs ≡ true → length cs ≤ s → AreSpread v s cs
+columns-spread v s cs all few l k i j low lower i_low j_low same =
+    let c = from_at 0 cs i all i_low in
+    let d = from_at 0 cs j all j_low in
+    let rows : s * l + i ≡ s * k + j = omega (arith, same, c, d) in
+    elim (cases_order l k) [
+      | inl e ↦ let steps : s * l ≡ s * k = ap (λ n. s * n) e in (e, omega (arith, rows, steps))
+      | inr (inl less) ↦ absurd (apart s l k i j less (omega (arith, i_low, few)) rows)
+      | inr (inr more) ↦ absurd (apart s k l j i more (omega (arith, j_low, few)) (sym rows))
+    ]
+
+pub constants_are : (ops : List PlainOp) → length (stored_constants ops) ≡ length (stores ops)
+constants_are [] = refl
+constants_are (Store array (Sum constant parts) r ∷ ops) = ap suc (constants_are ops)
+constants_are (op ∷ ops) = constants_are ops
+
+columns-told : (v loop : ℕ) (to : Stored) (ops : List PlainOp) (turned : List ℕ) → AreTurned v loop to ops turned →
+    AreSpread v (stride loop to.parts) (stored_constants ops)
+columns-told v loop to ops turned told =
+    let many = told.many in
+    let apart = told.apart in
+    let long = constants_are ops in
+    columns-spread v (stride loop to.parts) (stored_constants ops) told.from (omega (arith, many, apart, long))
+
+rows-told : (v loop : ℕ) (to : Stored) (ops : List PlainOp) → stride loop to.parts ≡ 1 →
+    are_clear v (stored_constants ops) ≡ true → AreSpread v (stride loop to.parts) (stored_constants ops)
+rows-told v loop to ops unit clear =
+    subst (λ s. AreSpread v s (stored_constants ops)) (sym unit) (rows-spread v (stored_constants ops) clear)
+
+pub spread : (v loop : ℕ) (to : Stored) (ops : List PlainOp) → can_lane v loop (Some to) ops ≡ true →
+    AreSpread v (stride loop to.parts) (stored_constants ops)
+spread v loop to ops h =
+    of_good_kinds (λ new. AreSpread v (stride loop to.parts) (stored_constants ops)) v 0 loop to ops h
+    (λ unit by_lane clear. rows-told v loop to ops unit clear)
+    (λ c tests. columns-told v loop to ops c.turned tests.columns.turned)
+    (λ from m known. rows-told v loop to ops known.unit known.clear)
+    (λ c from m first front short tests. columns-told v loop to ops c.turned tests.columns.turned)
+
+-- ---- groups
+
+-- which round of the group writes it, and by which store
+pub record IsOfGroup (v : ℕ) (p : PlainProgram) (to : Stored) (ops : List PlainOp) (vs : List ℕ) (b q : ℕ)
+    (memory : List ℕ) (w : Write) : Type 0 where
+  pub round : ℕ
+  pub index : ℕ
+  pub before : round < v
+  pub low : index < length (stored_constants ops)
+  pub word :
+      w.word ≡ store_base p to (vs ++ (v * b) ∷ []) q + stride (length vs) to.parts * round
+      + slice_index (stored_constants ops) index
+  pub value : w.value ≡ slice_index (values_in v p memory ops vs b q round) (slice_index (stored_registers ops) index)
+
+pub of_group : (v : ℕ) (p : PlainProgram) (to : Stored) (ops : List PlainOp) (vs : List ℕ) (b q : ℕ)
+    (memory : List ℕ) (w : Write) → are_linear 0 to.parts ≡ true → AreTold to ops →
+    Contains (group_writes v p memory ops vs b q) w →
+    IsOfGroup v p to ops vs b q memory w
+of_group v p to ops vs b q memory w linear is has =
+    let at = of-loop (λ l. round_writes p memory ops (vs ++ (v * b + l) ∷ []) q) 0 v w has in
+    let ws : List ℕ = vs ++ (v * b + at.round) ∷ [] in
+    let zs : List ℕ = values_in v p memory ops vs b q at.round in
+    let one = store_of (store_base p to ws q) zs (stored_constants ops) (stored_registers ops) w
+    (subst (λ (xs : List Write). Contains xs w) (writes_are p to ops ws q zs is) at.inside) in
+    let far = lane_value (length vs) (Sum 0 to.parts) vs (v * b) at.round q linear refl in
+    let word = one.word in
+    let high = at.high in
+    record {
+      round = at.round;
+      index = one.index;
+      before = omega (arith, high);
+      low = one.low;
+      word = omega (arith, word, far);
+      value = one.value;
+    }
+
+pub groups_are_sure : GroupsAreSure
+groups_are_sure v p to ops vs b q group can memory =
+    record {
+      sure = λ x y in_x in_y same.
+          let is = told v (length vs) to ops can in
+          let one = of_group v p to ops vs b q memory x group.linear is in_x in
+          let other = of_group v p to ops vs b q memory y group.linear is in_y in
+          let first = one.word in
+          let second = other.word in
+          let s : ℕ = stride (length vs) to.parts in
+          let both = spread v (length vs) to ops can one.round other.round one.index other.index
+          one.before other.before one.low other.low
+          (meet (store_base p to (vs ++ (v * b) ∷ []) q) (s * one.round) (s * other.round)
+          (slice_index (stored_constants ops) one.index) (slice_index (stored_constants ops) other.index)
+          (sym first ∙ same ∙ second)) in
+          one.value
+          ∙ ap₂ (λ l i. slice_index (values_in v p memory ops vs b q l) (slice_index (stored_registers ops) i))
+          both.0 both.1
+          ∙ sym other.value;
+    }
+  where
+    meet : (base m n c d : ℕ) → base + m + c ≡ base + n + d → m + c ≡ n + d
+    meet base m n c d e = omega (arith, e)
+
+-- ---- groups of rounds of one lane leave what their rounds write, each from the memory before all of them
+
+-- a round of the group
+abbrev round_at : ℕ → PlainProgram → List PlainOp → List ℕ → ℕ → ℕ → ℕ → List Step
+round_at v p ops vs b q l = steps_at p ops (vs ++ (v * b + l) ∷ []) q
+
+pub groups_write : GroupsWrite
+groups_write v p to ops vs b q group can s memory room =
+    ap (λ acts. memory_by p.modulus 1 acts s memory) (actions_of-loop (round_at v p ops vs b q) (range_with_len 0 v))
+    ∙ rounds_write p.modulus (IsInto p to) p.regs memory (λ l. actions_of (round_at v p ops vs b q l)) v 0 s memory
+    each room (λ k outside. refl)
+  where
+    each : (l : ℕ) → 0 ≤ l → l < 0 + v → IsLaneRound (IsInto p to) p.regs (actions_of (round_at v p ops vs b q l))
+    each l low high =
+        lane_round p to ops (vs ++ (v * b + l) ∷ []) q group.alone group.fresh (told v _ to ops can)
+        (group_fits v p ops vs b q l (omega (arith, high)) group.fits)

@@ -5,7 +5,7 @@ use Rattle.std.specs.List.{range_with_len}
 use Rattle.std.proofs.lemmas.Bool.{cases_lt}
 use Rattle.icode.proofs.Lines.{Contains-map, Contains-nil, Contains-range}
 use Rattle.fast_loops.specs.LoopLanes.Layers.{Write, IsAfter, written}
-use Rattle.fast_loops.proofs.Changes.{in-loop, of-loop}
+use Rattle.fast_loops.proofs.Rows.{in-loop, of-loop}
 use Rattle.fast_loops.proofs.LoopLanes.Made.{tile_within}
 
 -- ---- items of loops
@@ -28,11 +28,16 @@ module _ (v m : ℕ) (w : ℕ → ℕ → Write) where
   abbrev pub by_rounds : List Write
   by_rounds = flat_map (λ l. map (w l) (range_with_len 0 m)) (range_with_len 0 v)
 
+  -- v columns of a round from one on, and of each round
+  abbrev columns : ℕ → ℕ → List Write
+  columns g l = map (λ i. w l (g * v + i)) (range_with_len 0 v)
+
+  abbrev tile : ℕ → List Write
+  tile g = flat_map (columns g) (range_with_len 0 v)
+
   -- v columns of each round, and then the next v of each
   abbrev pub by_tiles : List Write
-  by_tiles =
-      flat_map (λ g. flat_map (λ l. map (λ i. w l (g * v + i)) (range_with_len 0 v)) (range_with_len 0 v))
-      (range_with_len 0 (m / v))
+  by_tiles = flat_map tile (range_with_len 0 (m / v))
 
   round_has : (l c : ℕ) → l < v → c < m → Contains by_rounds (w l c)
   round_has l c low below =
@@ -41,10 +46,8 @@ module _ (v m : ℕ) (w : ℕ → ℕ → Write) where
 
   tile_has : (g l i : ℕ) → g < m / v → l < v → i < v → Contains by_tiles (w l (g * v + i))
   tile_has g l i few low below =
-      in-loop (λ g. flat_map (λ l. map (λ i. w l (g * v + i)) (range_with_len 0 v)) (range_with_len 0 v)) 0
-      (m / v) g (w l (g * v + i)) (omega arith) (omega arith)
-      (in-loop (λ l. map (λ i. w l (g * v + i)) (range_with_len 0 v)) 0
-      v l (w l (g * v + i)) (omega arith) (omega arith)
+      in-loop tile 0 (m / v) g (w l (g * v + i)) (omega arith) (omega arith)
+      (in-loop (columns g) 0 v l (w l (g * v + i)) (omega arith) (omega arith)
       (map_has (λ i. w l (g * v + i)) 0 v i (omega arith) (omega arith)))
 
   pub turned_after : (memory : List ℕ) → 0 < v → m % v ≡ 0 → IsAfter memory (written memory by_tiles) by_rounds
@@ -53,17 +56,14 @@ module _ (v m : ℕ) (w : ℕ → ℕ → Write) where
         done = by_tiles;
         is = refl;
         within = λ x h.
-            let tile =
-            of-loop
-            (λ g. flat_map (λ l. map (λ i. w l (g * v + i)) (range_with_len 0 v)) (range_with_len 0 v)) 0
-            (m / v) x h in
-            let row = of-loop (λ l. map (λ i. w l (tile.round * v + i)) (range_with_len 0 v)) 0 v x tile.inside in
-            let one = map_item (λ i. w row.round (tile.round * v + i)) 0 v x row.inside in
-            let few = tile.high in
+            let at = of-loop tile 0 (m / v) x h in
+            let row = of-loop (columns at.round) 0 v x at.inside in
+            let one = map_item (λ i. w row.round (at.round * v + i)) 0 v x row.inside in
+            let few = at.high in
             let low = row.high in
             subst (Contains by_rounds) one.3
-            (round_has row.round (tile.round * v + one.0) (omega (arith, low))
-            (inside tile.round one.0 (omega (arith, few)) (omega (arith, one.2))));
+            (round_has row.round (at.round * v + one.0) (omega (arith, low))
+            (inside at.round one.0 (omega (arith, few)) (omega (arith, one.2))));
         whole = λ x h.
             let at = of-loop (λ l. map (w l) (range_with_len 0 m)) 0 v x h in
             let high = at.high in

@@ -1,15 +1,14 @@
 -- Places of a step that is as wide as several rounds: they are those of its first round, and go on by a stride.
-use Rattle.std.proofs.Common.{◌≡◌, ◌≢◌, ℕ, zero, suc, ◌+◌, ◌*◌, ◌<◌, ◌≤◌, true, List, [], ◌∷◌, ◌++◌, length, refl, sym}
-use Rattle.std.proofs.Common.{ap, ap₂, ◌∙◌, arith, inl, inr, mul-le-mul_left, mul_comm}
+use Rattle.std.proofs.Common.{◌≡◌, ◌≢◌, ℕ, zero, suc, ◌+◌, ◌*◌, ◌≤◌, true, List, [], ◌∷◌, ◌++◌, length, refl, sym, ap}
+use Rattle.std.proofs.Common.{ap₂, ◌∙◌, arith, mul-le-mul_left, mul_comm}
 use Rattle.std.specs.Prelude.{slice_index}
 use Rattle.std.proofs.Math.Nat.{mul_assoc}
 use Rattle.std.proofs.Math.Seq.{get_or-append_seam}
-use Rattle.std.proofs.lemmas.Bool.{cases_eq}
 use Rattle.icode.specs.Expression.{alone, with_part, with_sum, sum_numbers, parts_numbers}
 use Rattle.icode.specs.Plain.{PlainExpr, PlainParts, Sum, NoParts, AndParts, Proc, Var}
 use Rattle.fast_loops.specs.Places.{are_linear, is_linear, stride}
-use Rattle.fast_loops.proofs.Linear.{wrong, chosen, passed, proc_first, from_least}
-use Rattle.fast_loops.proofs.Strides.{added, value_by_strides}
+use Rattle.fast_loops.proofs.Linear.{by_equal, from_depth, wrong, proc_first, from_least}
+use Rattle.fast_loops.proofs.Apart.{added, value_by_strides}
 use Rattle.fast_loops.specs.LoopLanes.Rounds.{widened_parts, widened, place_stride}
 
 -- ---- the value of the innermost loop
@@ -31,20 +30,6 @@ grows (v ∷ vs) x y (suc d) le = grows vs x y d le
 
 -- ---- wide steps
 
--- multiples of deeper loops are not changed by it
-deeper : (least : ℕ) (parts : PlainParts) (vs : List ℕ) (x y q : ℕ) →
-    are_linear least parts ≡ true → length vs < least →
-    parts_numbers parts (vs ++ x ∷ []) q ≡ parts_numbers parts (vs ++ y ∷ []) q
-deeper least NoParts vs x y q h below = refl
-deeper least (AndParts (Proc factor) rest) vs x y q h below =
-    absurd (omega (arith, (proc_first least factor rest h).0, below))
-deeper least (AndParts (Var depth factor) rest) vs x y q h below =
-    let two = from_least least depth _ h in
-    ap₂ with_part
-    (ap (λ n. alone (n * factor)) (elsewhere vs x y depth (λ e. omega (arith, e, two.0, below))))
-    (deeper (depth + 1) rest vs x y q two.1 (omega (arith, two.0, below)))
-deeper least (AndParts _ rest) vs x y q h below = wrong h
-
 -- parts of the wide step are those of its first round
 widened-numbers : (v least : ℕ) (parts : PlainParts) (vs : List ℕ) (b q : ℕ) → are_linear least parts ≡ true →
     parts_numbers (widened_parts v (length vs) parts) (vs ++ b ∷ []) q ≡ parts_numbers parts (vs ++ (v * b) ∷ []) q
@@ -55,18 +40,15 @@ widened-numbers v least (AndParts (Var depth factor) rest) vs b q h =
     let two = from_least least depth _ h in
     let wide : PlainParts = AndParts (Var depth (v * factor)) rest in
     let kept : PlainParts = AndParts (Var depth factor) (widened_parts v (length vs) rest) in
-    elim (cases_eq depth (length vs)) [
-      | inl same ↦
-          ap (λ parts. parts_numbers parts (vs ++ b ∷ []) q) (chosen depth (length vs) wide kept same)
-          ∙ ap₂ with_part
-          (ap alone (at-loop same))
-          (deeper (depth + 1) rest vs b (v * b) q two.1 (omega (arith, same)))
-      | inr other ↦
-          ap (λ parts. parts_numbers parts (vs ++ b ∷ []) q) (passed depth (length vs) wide kept other)
-          ∙ ap₂ with_part
-          (ap (λ n. alone (n * factor)) (elsewhere vs b (v * b) depth other))
-          (widened-numbers v (depth + 1) rest vs b q two.1)
-    ]
+    by_equal (λ parts. parts_numbers parts (vs ++ b ∷ []) q ≡ parts_numbers (AndParts (Var depth factor) rest)
+    (vs ++ (v * b) ∷ []) q) depth (length vs) wide kept
+    (λ same.
+    ap₂ with_part (ap alone (at-loop same))
+    (from_depth (depth + 1) rest (vs ++ (v * b) ∷ []) (vs ++ b ∷ []) q two.1
+    (λ d le. elsewhere vs b (v * b) d (λ e. omega (arith, e, le, same)))))
+    (λ other.
+    ap₂ with_part (ap (λ n. alone (n * factor)) (elsewhere vs b (v * b) depth other))
+    (widened-numbers v (depth + 1) rest vs b q two.1))
   where
     at-loop : depth ≡ length vs →
         slice_index (vs ++ b ∷ []) depth * (v * factor) ≡ slice_index (vs ++ (v * b) ∷ []) depth * factor
@@ -76,13 +58,19 @@ widened-numbers v least (AndParts (Var depth factor) rest) vs b q h =
         ∙ ap (λ n. n * factor) (mul_comm b v ∙ sym (ap (slice_index (vs ++ (v * b) ∷ [])) same ∙ here vs (v * b)))
 widened-numbers v least (AndParts _ rest) vs b q h = wrong h
 
+-- with the innermost loop at this depth
+moved-parts : (v loop : ℕ) (parts : PlainParts) (vs : List ℕ) (b q : ℕ) →
+    are_linear 0 parts ≡ true → length vs ≡ loop →
+    parts_numbers (widened_parts v loop parts) (vs ++ b ∷ []) q ≡ parts_numbers parts (vs ++ (v * b) ∷ []) q
+moved-parts v loop parts vs b q h deep =
+    ap (λ l. parts_numbers (widened_parts v l parts) (vs ++ b ∷ []) q) (sym deep) ∙ widened-numbers v 0 parts vs b q h
+
 -- a place of the wide step is that of its first round
 pub widened_value : (v loop : ℕ) (place : PlainExpr) (vs : List ℕ) (b q : ℕ) →
     is_linear place ≡ true → length vs ≡ loop →
     sum_numbers (widened v loop place) (vs ++ b ∷ []) q ≡ sum_numbers place (vs ++ (v * b) ∷ []) q
 widened_value v loop (Sum constant parts) vs b q h deep =
-    ap (λ l. with_sum constant (parts_numbers (widened_parts v l parts) (vs ++ b ∷ []) q)) (sym deep)
-    ∙ ap (with_sum constant) (widened-numbers v 0 parts vs b q h)
+    ap (with_sum constant) (moved-parts v loop parts vs b q h deep)
 
 -- ---- rounds after the first
 
@@ -155,12 +143,6 @@ peak-grows least (AndParts _ rest) vs x y q h le = wrong h
 -- from this constant on, by linear parts, in this round
 abbrev pub moved : ℕ → ℕ → ℕ → PlainParts → ℕ → PlainExpr
 moved v loop constant parts l = Sum (constant + stride loop parts * l) (widened_parts v loop parts)
-
-moved-parts : (v loop : ℕ) (parts : PlainParts) (vs : List ℕ) (b q : ℕ) →
-    are_linear 0 parts ≡ true → length vs ≡ loop →
-    parts_numbers (widened_parts v loop parts) (vs ++ b ∷ []) q ≡ parts_numbers parts (vs ++ (v * b) ∷ []) q
-moved-parts v loop parts vs b q h deep =
-    ap (λ l. parts_numbers (widened_parts v l parts) (vs ++ b ∷ []) q) (sym deep) ∙ widened-numbers v 0 parts vs b q h
 
 pub moved_value : (v loop constant : ℕ) (parts : PlainParts) (vs : List ℕ) (b l q : ℕ) →
     are_linear 0 parts ≡ true → length vs ≡ loop →

@@ -1,35 +1,82 @@
--- A product by an entry of the table, and the two products that it becomes.
-use Rattle.std.proofs.Common.{◌≡◌, ◌≢◌, ℕ, zero, suc, ◌+◌, ◌-◌, ◌*◌, ◌/◌, ◌%◌, ◌^◌, ◌<◌, ◌≤◌, true, List, [], ◌∷◌, ◌++◌}
-use Rattle.std.proofs.Common.{All}
-use Rattle.std.proofs.Common.{map, replicate, length, refl, sym, ap, ap₂, ◌∙◌, subst, arith, eqb-true, ltb-true}
-use Rattle.std.proofs.Common.{leb-true}
-use Rattle.std.proofs.Common.{mul-le-mul_left}
-use Rattle.std.specs.Prelude.{slice_index, slice_index_or, slice_set, nat_lt, nat_le}
+-- A product by an entry of the table, the two products that it becomes, and statements of such products.
+use Rattle.fast_loops.proofs.Bools.{four_true, three_true}
+use Rattle.std.proofs.Common.{◌≡◌, ℕ, ◌+◌, ◌*◌, ◌<◌, ◌≤◌, List, [], ◌++◌, All, flat_map, length, refl, sym, ap, ap₂}
+use Rattle.std.proofs.Common.{◌∙◌, subst, arith, length-append, ◌≢◌, zero, suc, ◌-◌, ◌/◌, ◌%◌, ◌^◌, true, ◌∷◌}
+use Rattle.std.proofs.Common.{replicate, eqb-true, ltb-true, leb-true, mul-le-mul_left, append-nil, append_assoc}
 use Rattle.std.specs.List.{range_with_len, list_all}
+use Rattle.std.proofs.lemmas.List.Concat.{flat_map-append}
+use Rattle.std.proofs.lemmas.List.Elements.{All-append, All-nil, All-cons, All-head}
+use Rattle.icode.specs.declared.action.Action.{Action}
+use Rattle.icode.specs.declared.action.Action.TheVariants.{Mul}
+use Rattle.icode.specs.Actions.{Step, StepFits, actions_of, RegistersFit, step_of, lane_factors, steps_of_stmt}
+use Rattle.icode.specs.Actions.{steps_of_body}
+use Rattle.icode.specs.Machine.{Local, effects}
+use Rattle.icode.specs.Plain.{PlainProgram, PlainExpr, PlainOp, MulTable, PlainStmt, PlainBody, Loop, Do, NoStmts}
+use Rattle.icode.specs.Plain.{AndStmts}
+use Rattle.icode.proofs.Phase.{effects-append}
+use Rattle.fast_loops.proofs.Rows.{actions_of-append, factors_each, factors_fit}
+use Rattle.fast_loops.proofs.Swaps.{in-loops}
+use Rattle.fast_loops.proofs.TwoTables.Registers.{AreLike, like_after, like_products}
+use Rattle.std.specs.Prelude.{slice_index, slice_index_or, slice_set, nat_lt, nat_le}
 use Rattle.std.proofs.Math.Seq.{get_or-append_seam}
 use Rattle.std.proofs.lemmas.List.{get_or_append_left, get_or-set_same, get_or-set_other, length-set}
-use Rattle.std.proofs.lemmas.List.Elements.{All-nil, All-cons, All-append, All-map, All-replicate}
 use Rattle.operators.specs.Sum.{list_below}
 use Rattle.operators.proofs.Lists.{length-list_below, at-list_below}
 use Rattle.ring_mod.specs.Residue.{product_mod}
-use Rattle.icode.specs.declared.action.Action.{Action}
-use Rattle.icode.specs.declared.action.Action.TheVariants as actions
-use Rattle.icode.specs.Actions.{Step, StepFits, RegistersFit, step_of, lane_factors}
 use Rattle.icode.specs.Expression.{sum_numbers}
 use Rattle.icode.specs.Limits.{is_small_positive, is_small}
-use Rattle.icode.specs.Plain.{PlainExpr, PlainOp, PlainProgram, MulTable}
 use Rattle.icode.proofs.Bools.{both_true}
 use Rattle.fast_loops.specs.TwoTables.Factors.{Cut, first_factor, second_factor, first_place, second_place, is_cut}
 use Rattle.fast_loops.specs.TwoTables.Places.{is_even, place_in_first, place_in_second}
 use Rattle.fast_loops.specs.TwoTables.TwoTables.{has_room, is_usable, is_cut_well, can_split, in_factors, is_body_even}
-use Rattle.fast_loops.specs.TwoTables.TwoTables.{is_short}
-use Rattle.fast_loops.proofs.Rows.{factors_each}
-use Rattle.fast_loops.proofs.TwoTables.Dividing.{IsInBlock, in_block}
-use Rattle.fast_loops.proofs.TwoTables.Walked.{AreFactors, IsProduct, walked, table_small}
-use Rattle.fast_loops.proofs.TwoTables.Listed.{is-there}
-use Rattle.fast_loops.proofs.TwoTables.Placed.{place_even, first_value, first_peak, second_value, second_peak}
-use Rattle.fast_loops.proofs.TwoTables.Registers.{like_after, like_products}
-use Rattle.fast_loops.proofs.TwoTables.Replaced.{AreFor}
+use Rattle.fast_loops.specs.TwoTables.TwoTables.{is_short, Split, split_at, factored_op, two_products, put_before}
+use Rattle.fast_loops.specs.TwoTables.TwoTables.{factored_stmt, factored_body, is_op_even, is_stmt_even}
+use Rattle.fast_loops.proofs.TwoTables.Cutting.{IsInBlock, in_block, AreFactors, IsProduct, walked, table_small}
+use Rattle.fast_loops.proofs.TwoTables.Listed.{is-there, all-left, all-right, all-in-loop}
+use Rattle.fast_loops.proofs.TwoTables.Within.{place_even, first_value, first_peak, second_value, second_peak}
+use Rattle.fast_loops.proofs.Linear.{by_equal, chosen}
+use Rattle.icode.specs.declared.action.Action.TheVariants as actions
+
+-- words of actions that products have none of
+abbrev pub IsOfOthers : (Action → List ℕ) → Type 0
+IsOfOthers f = (r x : ℕ) (factors : List ℕ) → f (Mul r x factors) ≡ []
+
+module _ (p q : PlainProgram) where
+  -- the steps of q are for those of p
+  pub record AreFor (there here : List Step) : Type 0 where
+    pub fits : All (StepFits q) there
+    pub few : length there ≤ 2 * length here
+    pub like : (s t : Local) → AreLike p.modulus p.lanes p.regs s t →
+        AreLike p.modulus p.lanes p.regs (effects p.modulus p.lanes (actions_of here) s)
+        (effects p.modulus p.lanes (actions_of there) t)
+    pub words : (f : Action → List ℕ) → IsOfOthers f → flat_map f (actions_of there) ≡ flat_map f (actions_of here)
+
+  pub for-none : AreFor [] []
+  for-none = record { fits = All-nil (StepFits q); few = omega arith; like = λ s t like. like; words = λ f others. refl }
+
+  pub for-append : (a b c d : List Step) → AreFor a b → AreFor c d → AreFor (a ++ c) (b ++ d)
+  for-append a b c d h k =
+      record {
+        fits = All-append (StepFits q) a c h.fits k.fits;
+        few = let x = h.few in let y = k.few in omega (arith, x, y, length-append a c, length-append b d);
+        like = λ s t like.
+            subst (λ z. AreLike p.modulus p.lanes p.regs z (effects p.modulus p.lanes (actions_of (a ++ c)) t))
+            (sym (ap (λ xs. effects p.modulus p.lanes xs s) (actions_of-append b d) ∙ effects-append p.modulus p.lanes (actions_of b) (actions_of d) s))
+            (subst (AreLike p.modulus p.lanes p.regs (effects p.modulus p.lanes (actions_of d) (effects p.modulus p.lanes (actions_of b) s)))
+            (sym (ap (λ xs. effects p.modulus p.lanes xs t) (actions_of-append a c) ∙ effects-append p.modulus p.lanes (actions_of a) (actions_of c) t))
+            (k.like (effects p.modulus p.lanes (actions_of b) s) (effects p.modulus p.lanes (actions_of a) t) (h.like s t like)));
+        words = λ f others.
+            ap (flat_map f) (actions_of-append a c)
+            ∙ (flat_map-append f (actions_of a) (actions_of c)
+            ∙ (ap₂ (λ xs ys. xs ++ ys) (h.words f others) (k.words f others)
+            ∙ (sym (flat_map-append f (actions_of b) (actions_of d)) ∙ ap (flat_map f) (sym (actions_of-append b d)))));
+      }
+
+  pub for-loop : (f g : ℕ → List Step) (a n : ℕ) → ((i : ℕ) → a ≤ i → i < a + n → AreFor (f i) (g i)) →
+      AreFor (flat_map f (range_with_len a n)) (flat_map g (range_with_len a n))
+  for-loop = in-loops AreFor for-none for-append
+
+-- ---- a product by an entry of the table, and the two products that it becomes
 
 -- ---- the factors of lanes
 
@@ -38,12 +85,6 @@ factor_at lanes f lane lt =
     let size = length-list_below lanes f in
     get_or_append_left (list_below lanes f) (replicate (16 - lanes) 0) 0 lane (omega (arith, size, lt))
     ∙ at-list_below lanes f lane lt
-
-factors_small : (m lanes : ℕ) (f : ℕ → ℕ) → 0 < m → ((lane : ℕ) → f lane < m) → All (λ c. c < m) (lane_factors lanes f)
-factors_small m lanes f some h =
-    All-append (λ c. c < m) (map f (range_with_len 0 lanes)) (replicate (16 - lanes) 0)
-    (All-map (λ c. c < m) f (range_with_len 0 lanes) (λ k d lt. h _))
-    (All-replicate (λ c. c < m) (16 - lanes) 0 some)
 
 -- ---- one more register
 
@@ -80,24 +121,20 @@ pub record IsUsable (p : PlainProgram) (table : ℕ) (cut : Cut) : Type 0 where
 pub what_is_usable : (p : PlainProgram) (table : ℕ) (cut : Cut) → is_usable p table cut ≡ true → IsUsable p table cut
 what_is_usable p table cut usable =
     let all = both_true (has_room p) _ usable in
-    let a = both_true (nat_lt 1 p.lanes) _ all.0 in
-    let b = both_true (nat_lt (p.regs + 1) (2 ^ 20)) _ a.1 in
-    let c = both_true (is_small (length p.tables)) _ b.1 in
-    let d = both_true (nat_le p.procs 16) _ c.1 in
-    let e = both_true (nat_le (length p.phases) 64) (list_all is_short p.phases) d.1 in
+    let c = four_true (nat_lt 1 p.lanes) (nat_lt (p.regs + 1) (2 ^ 20)) (is_small (length p.tables)) _ all.0 in
+    let e = three_true (nat_le p.procs 16) (nat_le (length p.phases) 64) (list_all is_short p.phases) c.3 in
     let f = both_true (is_cut p.lanes cut) (list_all (is_body_even p.lanes table) p.phases) all.1 in
-    let g = both_true (is_small_positive cut.width) _ f.0 in
-    let h = both_true (is_small_positive cut.across) _ g.1 in
+    let h = three_true (is_small_positive cut.width) (is_small_positive cut.across) _ f.0 in
     record {
-      lanes = ltb-true 1 p.lanes a.0;
-      regs = ltb-true (p.regs + 1) (2 ^ 20) b.0;
-      tables = c.0;
-      procs = leb-true p.procs 16 d.0;
-      phases = leb-true (length p.phases) 64 e.0;
-      short = e.1;
-      width = g.0;
-      across = h.0;
-      whole = eqb-true (cut.width % p.lanes) 0 h.1;
+      lanes = ltb-true 1 p.lanes c.0;
+      regs = ltb-true (p.regs + 1) (2 ^ 20) c.1;
+      tables = c.2;
+      procs = leb-true p.procs 16 e.0;
+      phases = leb-true (length p.phases) 64 e.1;
+      short = e.2;
+      width = h.0;
+      across = h.1;
+      whole = eqb-true (cut.width % p.lanes) 0 h.2;
       even = f.1;
     }
 
@@ -262,8 +299,8 @@ module _ (p : PlainProgram) (table : ℕ) (cut : Cut) (is : IsSplit p table cut)
           numbers = omega (arith, peak, whole);
           place = omega (arith, there, here, size);
           registers = let fits = fit.registers in (omega arith, omega (arith, fits.1));
-          factors = factors_small p.modulus p.lanes factors_one is.factors.some
-              (λ lane. subst (λ es. slice_index es (at_first + 0 * lane) < p.modulus) (sym in_first) (table_small p.modulus first (at_first + 0 * lane) is.factors.first_small));
+          factors = factors_fit p.modulus p.lanes factors_one is.factors.some
+              (λ lane lt. subst (λ es. slice_index es (at_first + 0 * lane) < p.modulus) (sym in_first) (table_small p.modulus first (at_first + 0 * lane) is.factors.first_small));
         }
 
     two_fits : StepFits q two
@@ -277,8 +314,8 @@ module _ (p : PlainProgram) (table : ℕ) (cut : Cut) (is : IsSplit p table cut)
           numbers = omega (arith, peak, whole);
           place = omega (arith, there, here, size);
           registers = let fits = fit.registers in (omega (arith, fits.0), omega arith);
-          factors = factors_small p.modulus p.lanes factors_two is.factors.some
-              (λ lane. subst (λ es. slice_index es (at_second + step * lane) < p.modulus) (sym in_second) (table_small p.modulus second (at_second + step * lane) is.factors.second_small));
+          factors = factors_fit p.modulus p.lanes factors_two is.factors.some
+              (λ lane lt. subst (λ es. slice_index es (at_second + step * lane) < p.modulus) (sym in_second) (table_small p.modulus second (at_second + step * lane) is.factors.second_small));
         }
 
     each : (lane : ℕ) → lane < p.lanes →
@@ -306,3 +343,62 @@ module _ (p : PlainProgram) (table : ℕ) (cut : Cut) (is : IsSplit p table cut)
               ∙ (ap (λ xs. xs ++ []) (others r p.regs (lane_factors p.lanes factors_two))
               ∙ sym (ap (λ xs. xs ++ []) (others r x (lane_factors p.lanes factors_of))));
         }
+
+-- ---- statements where a table is in two factors: their steps are for those of the statements
+
+-- the steps of statements, one after another
+abbrev steps_of_all : PlainProgram → List PlainStmt → List ℕ → ℕ → List Step
+steps_of_all p [] vs i = []
+steps_of_all p (stmt ∷ stmts) vs i = steps_of_stmt p stmt vs i ++ steps_of_all p stmts vs i
+
+steps_before : (p : PlainProgram) (stmts : List PlainStmt) (body : PlainBody) (vs : List ℕ) (i : ℕ) →
+    steps_of_body p (put_before stmts body) vs i ≡ steps_of_all p stmts vs i ++ steps_of_body p body vs i
+steps_before p [] body vs i = refl
+steps_before p (stmt ∷ stmts) body vs i =
+    ap (λ xs. steps_of_stmt p stmt vs i ++ xs) (steps_before p stmts body vs i)
+    ∙ sym (append_assoc (steps_of_stmt p stmt vs i) (steps_of_all p stmts vs i) (steps_of_body p body vs i))
+
+module _ (p : PlainProgram) (table : ℕ) (cut : Cut) (is : IsSplit p table cut) where
+  abbrev there : PlainProgram
+  there = in_factors p table cut
+
+  abbrev split : Split
+  split = split_at p table cut
+
+  op-for : (op : PlainOp) (vs : List ℕ) (i : ℕ) → is_op_even p.lanes table op ≡ true → StepFits p (step_of p op vs i) →
+      AreFor p there (steps_of_all there (factored_op split op) vs i) (step_of p op vs i ∷ [])
+  op-for (MulTable r x of place step) vs i even fit =
+      by_equal
+      (λ stmts. AreFor p there (steps_of_all there stmts vs i) (step_of p (MulTable r x of place step) vs i ∷ [])) of table
+      (two_products split (MulTable r x of place step)) (Do (MulTable r x of place step) ∷ [])
+      (λ e.
+      let h = both_true (nat_lt step 2) _ (sym (chosen of table _ true e) ∙ even) in
+      subst (λ k. AreFor p there (steps_of_all there (two_products split (MulTable r x of place step)) vs i)
+      (step_of p (MulTable r x k place step) vs i ∷ [])) (sym e)
+      (products p table cut is r x place step vs i (ltb-true step 2 h.0) h.1
+      (subst (λ k. StepFits p (step_of p (MulTable r x k place step) vs i)) e fit)))
+      (λ other. other_product p table cut is r x of place step vs i other fit)
+  op-for op vs i even fit = other_step p table cut is op vs i refl fit
+
+  mutual
+    stmt-for : (stmt : PlainStmt) (vs : List ℕ) (i : ℕ) → is_stmt_even p.lanes table stmt ≡ true →
+        All (StepFits p) (steps_of_stmt p stmt vs i) →
+        AreFor p there (steps_of_all there (factored_stmt split stmt) vs i) (steps_of_stmt p stmt vs i)
+    stmt-for (Loop count body) vs i even fit =
+        subst (λ xs. AreFor p there xs (flat_map (λ k. steps_of_body p body (vs ++ k ∷ []) i) (range_with_len 0 count)))
+        (sym (append-nil (flat_map (λ k. steps_of_body there (factored_body split body) (vs ++ k ∷ []) i) (range_with_len 0 count))))
+        (for-loop p there (λ k. steps_of_body there (factored_body split body) (vs ++ k ∷ []) i) (λ k. steps_of_body p body (vs ++ k ∷ []) i) 0 count
+        (λ k low high. body-for body (vs ++ k ∷ []) i even (all-in-loop (StepFits p) (λ k. steps_of_body p body (vs ++ k ∷ []) i) 0 count k fit low high)))
+    stmt-for (Do op) vs i even fit = op-for op vs i even (All-head (StepFits p) (step_of p op vs i) [] fit)
+
+    pub body-for : (body : PlainBody) (vs : List ℕ) (i : ℕ) → is_body_even p.lanes table body ≡ true →
+        All (StepFits p) (steps_of_body p body vs i) →
+        AreFor p there (steps_of_body there (factored_body split body) vs i) (steps_of_body p body vs i)
+    body-for NoStmts vs i even fit = for-none p there
+    body-for (AndStmts stmt rest) vs i even fit =
+        let two = both_true (is_stmt_even p.lanes table stmt) (is_body_even p.lanes table rest) even in
+        subst (λ xs. AreFor p there xs (steps_of_stmt p stmt vs i ++ steps_of_body p rest vs i))
+        (sym (steps_before there (factored_stmt split stmt) (factored_body split rest) vs i))
+        (for-append p there (steps_of_all there (factored_stmt split stmt) vs i) (steps_of_stmt p stmt vs i) (steps_of_body there (factored_body split rest) vs i) (steps_of_body p rest vs i)
+        (stmt-for stmt vs i two.0 (all-left (StepFits p) (steps_of_stmt p stmt vs i) (steps_of_body p rest vs i) fit))
+        (body-for rest vs i two.1 (all-right (StepFits p) (steps_of_stmt p stmt vs i) (steps_of_body p rest vs i) fit)))

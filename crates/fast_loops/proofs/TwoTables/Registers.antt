@@ -1,6 +1,6 @@
 -- Registers with one more after them.
-use Rattle.std.proofs.Common.{◌≡◌, ℕ, zero, suc, ◌+◌, ◌*◌, ◌%◌, ◌<◌, ◌≤◌, List, [], ◌∷◌, map, length}
-use Rattle.std.proofs.Common.{refl, sym, ap, ap₂, ◌∙◌, arith}
+use Rattle.std.proofs.Common.{◌≡◌, ℕ, zero, suc, ◌+◌, ◌*◌, ◌%◌, ◌<◌, ◌≤◌, List, [], ◌∷◌, map, length, refl, sym, ap}
+use Rattle.std.proofs.Common.{ap₂, ◌∙◌, arith}
 use Rattle.std.specs.Prelude.{replicate, slice_index, slice_get, slice_set}
 use Rattle.std.proofs.Math.Nat.{mod-mod, mul_assoc}
 use Rattle.std.proofs.lemmas.List.{length-replicate}
@@ -14,7 +14,7 @@ use Rattle.icode.specs.Machine.{lane_by_lane}
 use Rattle.icode.proofs.Words.{with_words-agree, with_words-other, length-words_at}
 use Rattle.icode.proofs.CodeLaws.ByLane.{length-registers_after}
 use Rattle.icode.proofs.CodeLaws.Placing.{length-lane_by_lane, length-slice_set, with_words_there}
-use Rattle.fast_loops.proofs.Independent.{register_agrees, tile_agrees}
+use Rattle.fast_loops.proofs.Swaps.{register_agrees, tile_agrees}
 
 -- ---- lists
 

@@ -1,21 +1,106 @@
--- A program with a table in two factors is within the limits of programs.
-use Rattle.std.proofs.Common.{◌≡◌, ℕ, zero, suc, ◌+◌, ◌≤◌, ◌&&◌, Bool, true, false, List, [], ◌∷◌, ◌++◌, map}
-use Rattle.std.proofs.Common.{refl, sym, ap, ap₂, ◌∙◌, arith, eqb-true, le-leb, ⊎_elim}
-use Rattle.std.specs.Prelude.{nat_lt, nat_le, max, ◌==◌, ◌%◌, slice_set, if◌then◌else◌}
+-- Places in two factors, and that a program with a table in two factors is within the limits of programs.
+use Rattle.std.proofs.Common.{◌≡◌, ℕ, zero, suc, ◌+◌, ◌*◌, ◌/◌, ◌%◌, ◌≤◌, true, List, refl, sym, ap, ◌∙◌, arith, subst}
+use Rattle.std.proofs.Common.{eqb-true, ◌&&◌, Bool, [], ◌∷◌, ◌++◌, map, ap₂, le-leb}
+use Rattle.std.specs.Prelude.{slice_index, ◌==◌, nat_lt, nat_le, max, slice_set}
+use Rattle.std.proofs.Math.Nat.{le-max_left, max-le, div-le_self, mod-le, zero-mod, mul-zero, mul-le-mul_right}
+use Rattle.std.proofs.Math.Nat.{div-add-mod', div-mul-le_self}
+use Rattle.ring_mod.proofs.Congruence.{same-add, same-mul}
+use Rattle.icode.specs.Expression.{sum_numbers, parts_numbers}
+use Rattle.icode.specs.Plain.{PlainExpr, PlainParts, Sum, NoParts, AndParts, Proc, Var, Product, PlainOp, PlainStmt}
+use Rattle.icode.specs.Plain.{PlainBody, MulTable, Loop, Do, NoStmts, AndStmts}
+use Rattle.icode.proofs.Bools.{both_true}
+use Rattle.fast_loops.specs.TwoTables.Factors.{Cut, first_place, second_place, is_table}
+use Rattle.fast_loops.specs.TwoTables.Places.{are_even, is_even, quotient_by, place_in_first, place_in_second}
+use Rattle.fast_loops.proofs.Bools.{four_true, later_kept}
 use Rattle.std.specs.List.{list_all}
-use Rattle.std.proofs.lemmas.Bool.{cases_Bool, and_from}
+use Rattle.std.proofs.lemmas.Bool.{and_from}
 use Rattle.icode.specs.Limits.{is_small, is_small_positive, is_sum_within, sum_parts, all_parts, sum_depth, parts_depth}
 use Rattle.icode.specs.Limits.{is_expr_within, is_op_within, is_stmt_within, is_body_within, are_tables_within}
 use Rattle.icode.specs.Limits.{are_phases_within}
-use Rattle.icode.specs.Plain.{PlainExpr, PlainParts, PlainOp, PlainStmt, PlainBody, Sum, NoParts, AndParts, Proc, Var}
-use Rattle.icode.specs.Plain.{Product, MulTable, Loop, Do}
-use Rattle.icode.specs.Plain.{NoStmts, AndStmts}
-use Rattle.icode.proofs.Bools.{both_true}
-use Rattle.fast_loops.specs.TwoTables.Factors.{Cut, is_table}
-use Rattle.fast_loops.specs.TwoTables.Places.{are_even, is_even, quotient_by, place_in_first, place_in_second}
 use Rattle.fast_loops.specs.TwoTables.TwoTables.{Split, factored_op, two_products, put_before, factored_stmt}
 use Rattle.fast_loops.specs.TwoTables.TwoTables.{factored_body, is_op_even, is_stmt_even, is_body_even}
-use Rattle.fast_loops.proofs.Phases.{all-within}
+use Rattle.fast_loops.proofs.Linear.{by_equal, chosen}
+use Rattle.fast_loops.proofs.InPlace.{all-within}
+
+-- ---- multiples of the lanes
+
+times_even : (lanes a factor : ℕ) → factor % lanes ≡ 0 → (a * factor) % lanes ≡ 0
+times_even lanes a factor even = same-mul lanes a a factor 0 refl (even ∙ sym (zero-mod lanes)) ∙ (ap (λ k. k % lanes) (mul-zero a) ∙ zero-mod lanes)
+
+sum_even : (lanes a b : ℕ) → a % lanes ≡ 0 → b % lanes ≡ 0 → (a + b) % lanes ≡ 0
+sum_even lanes a b one two = same-add lanes a 0 b 0 (one ∙ sym (zero-mod lanes)) (two ∙ sym (zero-mod lanes)) ∙ zero-mod lanes
+
+parts_even : (lanes room : ℕ) (parts : PlainParts) (vs : List ℕ) (q : ℕ) → are_even lanes room parts ≡ true →
+    (parts_numbers parts vs q).value % lanes ≡ 0
+parts_even lanes room NoParts vs q h = zero-mod lanes
+parts_even lanes zero (AndParts part rest) vs q h = cc
+parts_even lanes (suc room) (AndParts (Proc factor) rest) vs q h =
+    let two = both_true (factor % lanes == 0) _ h in
+    sum_even lanes (q * factor) _ (times_even lanes q factor (eqb-true (factor % lanes) 0 two.0)) (parts_even lanes room rest vs q two.1)
+parts_even lanes (suc room) (AndParts (Var depth factor) rest) vs q h =
+    let two = both_true (factor % lanes == 0) _ h in
+    sum_even lanes (slice_index vs depth * factor) _ (times_even lanes (slice_index vs depth) factor (eqb-true (factor % lanes) 0 two.0)) (parts_even lanes room rest vs q two.1)
+parts_even lanes (suc room) (AndParts (Product outer inner factor) rest) vs q h =
+    let two = both_true (factor % lanes == 0) _ h in
+    let both = slice_index vs outer * slice_index vs inner in
+    sum_even lanes (both * factor) _ (times_even lanes both factor (eqb-true (factor % lanes) 0 two.0)) (parts_even lanes room rest vs q two.1)
+parts_even lanes (suc room) (AndParts part rest) vs q h = cc
+
+pub place_even : (lanes : ℕ) (place : PlainExpr) (vs : List ℕ) (q : ℕ) → is_even lanes place ≡ true →
+    (sum_numbers place vs q).value % lanes ≡ 0
+place_even lanes (Sum constant parts) vs q h =
+    let two = both_true (constant % lanes == 0) _ h in
+    sum_even lanes constant _ (eqb-true (constant % lanes) 0 two.0) (parts_even lanes 30 parts vs q two.1)
+
+-- ---- the factors' places
+
+value_small : (place : PlainExpr) (vs : List ℕ) (q : ℕ) → (sum_numbers place vs q).value ≤ (sum_numbers place vs q).peak
+value_small (Sum constant parts) vs q = le-max_left (constant + (parts_numbers parts vs q).value) (parts_numbers parts vs q).peak
+
+once : (n : ℕ) → n * 1 ≡ n
+once n = omega arith
+
+pub first_value : (cut : Cut) (place : PlainExpr) (vs : List ℕ) (q : ℕ) →
+    (sum_numbers (place_in_first cut place) vs q).value ≡ first_place cut (sum_numbers place vs q).value
+first_value cut place vs q = let n = (sum_numbers place vs q).value / cut.width in let e = once n in omega arith
+
+pub first_peak : (cut : Cut) (place : PlainExpr) (vs : List ℕ) (q : ℕ) →
+    (sum_numbers (place_in_first cut place) vs q).peak ≤ (sum_numbers place vs q).peak
+first_peak cut place vs q =
+    let v = (sum_numbers place vs q).value in
+    let n = v / cut.width in
+    let e = once n in
+    let low = div-le_self v cut.width in
+    let top = value_small place vs q in
+    max-le (omega (arith, low, top, e)) (max-le (max-le (omega arith) (omega (arith, low, top, e))) (omega arith))
+
+pub second_value : (cut : Cut) (place : PlainExpr) (vs : List ℕ) (q : ℕ) →
+    (sum_numbers (place_in_second cut place) vs q).value ≡ second_place cut (sum_numbers place vs q).value
+second_value cut place vs q =
+    let v = (sum_numbers place vs q).value in
+    let one = once (v % cut.width) in
+    let inner : (sum_numbers (quotient_by place cut.width) vs q).value ≡ v / cut.width = first_value cut place vs q in
+    let outer : (sum_numbers (quotient_by place cut.width) vs q).value / cut.across * cut.width ≡ v / cut.width / cut.across * cut.width = ap (λ n. n / cut.across * cut.width) inner in
+    omega (arith, one, outer)
+
+pub second_peak : (cut : Cut) (place : PlainExpr) (vs : List ℕ) (q : ℕ) →
+    (sum_numbers (place_in_second cut place) vs q).peak ≤ (sum_numbers place vs q).peak
+second_peak cut place vs q =
+    let v = (sum_numbers place vs q).value in
+    let b = (sum_numbers (quotient_by place cut.width) vs q).value in
+    let top = value_small place vs q in
+    let one = once (v % cut.width) in
+    let rem = mod-le v cut.width in
+    let inner : b ≡ v / cut.width = first_value cut place vs q in
+    let whole = div-add-mod' v cut.width in
+    let blocks = div-mul-le_self v cut.width in
+    let fewer = div-le_self (v / cut.width) cut.across in
+    let rows : b / cut.across * cut.width ≤ v / cut.width * cut.width = mul-le-mul_right cut.width (subst (λ n. n / cut.across ≤ v / cut.width) (sym inner) fewer) in
+    let peak = first_peak cut place vs q in
+    max-le (omega (arith, one, rows, whole, top))
+    (max-le (max-le (omega arith) (omega (arith, one, rem, top))) (max-le (max-le (omega (arith, peak)) (omega (arith, rows, blocks, top))) (omega arith)))
+
+-- ---- a program with a table in two factors is within the limits of programs
 
 -- ---- places
 
@@ -77,8 +162,7 @@ before_within : (m n : ℕ) (stmts : List PlainStmt) (body : PlainBody) →
     is_body_within m (put_before stmts body) n ≡ true
 before_within m n [] body h k = k
 before_within m n (stmt ∷ stmts) body h k =
-    let two = both_true (is_stmt_within m stmt n) _ h in
-    and_from (is_stmt_within m stmt n) _ two.0 (before_within m n stmts body two.1 k)
+    later_kept (is_stmt_within m stmt n) (λ more. before_within m n stmts body more k) h
 
 module _ (m lanes : ℕ) (split : Split) (register : is_small split.register ≡ true) (second : is_small split.second ≡ true)
     (wide : is_small_positive split.cut.width ≡ true) (across : is_small_positive split.cut.across ≡ true) where
@@ -92,41 +176,32 @@ module _ (m lanes : ℕ) (split : Split) (register : is_small split.register ≡
       is_op_within m (MulTable r x of place step) n ≡ true →
       all n (two_products split (MulTable r x of place step)) ≡ true
   products_within r x of step n place e even h =
-      let a = both_true (is_small r) _ h in
-      let b = both_true (is_small x) _ a.1 in
-      let c = both_true (is_small of) _ b.1 in
-      let d = both_true (nat_lt step 2) _ c.1 in
-      let one = first_within lanes split.cut place n wide even d.1 in
-      let two = second_within lanes split.cut place n wide across even d.1 in
+      let c = four_true (is_small r) (is_small x) (is_small of) _ h in
+      let one = first_within lanes split.cut place n wide even (both_true (nat_lt step 2) _ c.3).1 in
       and_from (is_op_within m (MulTable split.register x split.table (place_in_first split.cut place) 0) n) _
-      (and_from (is_small split.register) _ register (and_from (is_small x) _ b.0 (and_from (is_small split.table) _ (ap is_small (sym e) ∙ c.0) one)))
+      (and_from (is_small split.register) _ register (and_from (is_small x) _ c.1 (and_from (is_small split.table) _ (ap is_small (sym e) ∙ c.2) one)))
       (and_from (is_op_within m (MulTable r split.register split.second (place_in_second split.cut place) step) n) true
-      (and_from (is_small r) _ a.0 (and_from (is_small split.register) _ register (and_from (is_small split.second) _ second (and_from (nat_lt step 2) _ d.0 two))))
+      (and_from (is_small r) _ c.0 (and_from (is_small split.register) _ register
+      (and_from (is_small split.second) _ second (later_kept (nat_lt step 2) (second_within lanes split.cut place n wide across even) c.3))))
       refl)
 
   op_within : (op : PlainOp) (n : ℕ) → is_op_even lanes split.table op ≡ true → is_op_within m op n ≡ true →
       all n (factored_op split op) ≡ true
   op_within (MulTable r x of place step) n even h =
-      ⊎_elim
-      (λ (same : (of == split.table) ≡ true).
-      ap (λ b. all n (chosen b)) same
-      ∙ products_within r x of step n place (eqb-true of split.table same)
-      (both_true (nat_lt step 2) (is_even lanes place) (ap (λ b. if b then (nat_lt step 2 && is_even lanes place) else true) (sym same) ∙ even)).1 h)
-      (λ (other : (of == split.table) ≡ false). ap (λ b. all n (chosen b)) other ∙ alone (MulTable r x of place step) n h)
-      (cases_Bool (of == split.table))
-    where
-      chosen : Bool → List PlainStmt
-      chosen b = if b then two_products split (MulTable r x of place step) else Do (MulTable r x of place step) ∷ []
+      by_equal (λ stmts. all n stmts ≡ true) of split.table (two_products split (MulTable r x of place step))
+      (Do (MulTable r x of place step) ∷ [])
+      (λ same.
+      products_within r x of step n place same
+      (both_true (nat_lt step 2) _ (sym (chosen of split.table _ true same) ∙ even)).1 h)
+      (λ other. alone (MulTable r x of place step) n h)
   op_within op n even h = alone op n h
 
   mutual
     stmt_within : (stmt : PlainStmt) (n : ℕ) → is_stmt_even lanes split.table stmt ≡ true →
         is_stmt_within m stmt n ≡ true → all n (factored_stmt split stmt) ≡ true
     stmt_within (Loop count body) n even h =
-        let a = both_true (is_small_positive count) _ h in
-        let b = both_true (nat_lt n 64) _ a.1 in
         and_from (is_stmt_within m (Loop count (factored_body split body)) n) true
-        (and_from (is_small_positive count) _ a.0 (and_from (nat_lt n 64) _ b.0 (body_within body (n + 1) even b.1))) refl
+        (later_kept (is_small_positive count) (later_kept (nat_lt n 64) (body_within body (n + 1) even)) h) refl
     stmt_within (Do op) n even h = op_within op n even h
 
     body_within : (body : PlainBody) (n : ℕ) → is_body_even lanes split.table body ≡ true →
@@ -154,6 +229,6 @@ tables_within m (entries ∷ tables) zero first second h one two =
     behind : (tables : List (List ℕ)) → are_tables_within m tables ≡ true →
         are_tables_within m (tables ++ second ∷ []) ≡ true
     behind [] h = and_from (is_table m second) true two refl
-    behind (entries ∷ tables) h = let a = both_true (is_table m entries) _ h in and_from (is_table m entries) _ a.0 (behind tables a.1)
+    behind (entries ∷ tables) h = later_kept (is_table m entries) (behind tables) h
 tables_within m (entries ∷ tables) (suc k) first second h one two =
-    let a = both_true (is_table m entries) _ h in and_from (is_table m entries) _ a.0 (tables_within m tables k first second a.1 one two)
+    later_kept (is_table m entries) (λ more. tables_within m tables k first second more one two) h

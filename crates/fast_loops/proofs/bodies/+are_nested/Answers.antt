@@ -2,7 +2,7 @@ use Rattle.std.proofs.Common.{◌*◌, ◌∙◌, sym, ap}
 use Rattle.std.proofs.lemmas.Bool.{lt-leb}
 use Rattle.icode.specs.Plain.{plain_body}
 use Rattle.fast_loops.specs.View.{plain_parts, one_loop}
-use Rattle.fast_loops.proofs.Alone.{others-counts, op-counts, loop-seen, nested-alone, nested-loop, nested-not}
+use Rattle.fast_loops.proofs.Counts.{others-counts, op-counts, loop-seen, nested-alone, nested-loop, nested-not}
 use Rattle.fast_loops.proofs.bodies.+are_nested.Goals as goal
 
 pub returns-then-body-ne1 : goal.returns-then-body-ne1

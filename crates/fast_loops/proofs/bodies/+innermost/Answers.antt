@@ -1,8 +1,7 @@
 use Rattle.std.proofs.Common.{◌∙◌, sym, ap}
 use Rattle.icode.specs.Plain.{plain_body}
 use Rattle.fast_loops.specs.Interchange.{round_in}
-use Rattle.fast_loops.proofs.Alone.{others-counts, op-counts, loop-seen}
-use Rattle.fast_loops.proofs.Counts.{inner-round}
+use Rattle.fast_loops.proofs.Counts.{others-counts, op-counts, loop-seen, inner-round}
 use Rattle.fast_loops.proofs.bodies.+innermost.Goals as goal
 
 pub returns-then-body-ne1 : goal.returns-then-body-ne1

@@ -1,7 +1,7 @@
 use Rattle.std.proofs.Common.{◌+◌, ◌∙◌, sym, ap}
 use Rattle.icode.specs.Plain.{plain_body}
 use Rattle.fast_loops.specs.View.{plain_parts, last_stride_in}
-use Rattle.fast_loops.proofs.Alone.{others-counts, op-counts, loop-seen, last-alone}
+use Rattle.fast_loops.proofs.Counts.{others-counts, op-counts, loop-seen, last-alone}
 use Rattle.fast_loops.proofs.bodies.+last_stride.Goals as goal
 
 pub returns-then-body-ne1 : goal.returns-then-body-ne1

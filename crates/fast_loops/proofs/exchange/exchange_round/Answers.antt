@@ -2,7 +2,7 @@ use Rattle.std.proofs.Common.{◌∙◌, sym, ap, arith, map}
 use Rattle.icode.specs.Plain.{plain_stmt, body_of}
 use Rattle.fast_loops.specs.View.{exchanged_stmt}
 use Rattle.fast_loops.proofs.Items.{changed-more, changed-all}
-use Rattle.fast_loops.proofs.Views.{round-map}
+use Rattle.fast_loops.proofs.Counts.{round-map}
 use Rattle.fast_loops.proofs.exchange.exchange_round.Goals as goal
 
 pub loop-stmt-preserved : goal.loop-stmt-preserved

@@ -3,7 +3,7 @@ use Rattle.std.proofs.lemmas.List.{length-map}
 use Rattle.icode.specs.Plain.{plain_stmt, body_of}
 use Rattle.fast_loops.specs.Interchange.{interchanged_nest}
 use Rattle.fast_loops.proofs.Items.{changed-more, changed-all, unchanged-item}
-use Rattle.fast_loops.proofs.Views.{body-map, shallow-at}
+use Rattle.fast_loops.proofs.Counts.{body-map, shallow-at}
 use Rattle.fast_loops.proofs.loops.interchange_body.Goals as goal
 
 pub interchange_nest-requires : goal.interchange_nest-requires

@@ -4,7 +4,7 @@ use Rattle.icode.specs.declared.program.Stmt.{Stmt}
 use Rattle.icode.specs.Plain.{plain_body, plain_phases}
 use Rattle.fast_loops.specs.Interchange.{interchanged_body}
 use Rattle.fast_loops.proofs.Items.{changed-more, changed-all, unchanged-item}
-use Rattle.fast_loops.proofs.Views.{all-shallow-at}
+use Rattle.fast_loops.proofs.Counts.{all-shallow-at}
 use Rattle.fast_loops.proofs.loops.interchange_phases.Goals as goal
 
 pub interchange_phase-requires : goal.interchange_phase-requires

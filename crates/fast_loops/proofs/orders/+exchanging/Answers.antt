@@ -1,6 +1,6 @@
 use Rattle.std.proofs.Common.{◌∙◌, sym}
 use Rattle.icode.specs.Plain.{plain_body}
-use Rattle.fast_loops.proofs.Alone.{others-counts, exchanged-alone}
+use Rattle.fast_loops.proofs.Counts.{others-counts, exchanged-alone}
 use Rattle.fast_loops.proofs.orders.+exchanging.Goals as goal
 
 pub exchange_innermost-returns-then-body-ne1 : goal.exchange_innermost-returns-then-body-ne1

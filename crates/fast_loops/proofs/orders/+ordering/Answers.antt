@@ -1,7 +1,7 @@
 use Rattle.std.proofs.Common.{◌+◌, arith}
 use Rattle.icode.specs.Plain.{Loop, plain_body}
 use Rattle.fast_loops.specs.View.{one_loop}
-use Rattle.fast_loops.proofs.Alone.{others-counts, ordered-alone, ordered-loops, ordered-deeper}
+use Rattle.fast_loops.proofs.Counts.{others-counts, ordered-alone, ordered-loops, ordered-deeper}
 use Rattle.fast_loops.proofs.orders.+ordering.Goals as goal
 
 pub order-returns-then-body-ne1 : goal.order-returns-then-body-ne1

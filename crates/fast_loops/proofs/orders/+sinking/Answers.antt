@@ -2,7 +2,7 @@ use Rattle.std.proofs.Common.{◌≡◌, ◌∙◌, sym, ap, arith}
 use Rattle.icode.specs.Plain.{plain_body}
 use Rattle.fast_loops.specs.Rounds.{steps_less, first_load}
 use Rattle.fast_loops.specs.View.{loops_in}
-use Rattle.fast_loops.proofs.Alone.{others-counts, sunk-alone, sunk-stays, sunk-swapped, loops-exchanged}
+use Rattle.fast_loops.proofs.Counts.{others-counts, sunk-alone, sunk-stays, sunk-swapped, loops-exchanged}
 use Rattle.fast_loops.proofs.orders.+sinking.Goals as goal
 
 pub sink_further-returns-then-body-ne1 : goal.sink_further-returns-then-body-ne1

@@ -1,5 +1,5 @@
 use Rattle.std.proofs.Common.{◌∙◌, sym, arith}
-use Rattle.fast_loops.proofs.Views.{fresh-more}
+use Rattle.fast_loops.proofs.Counts.{fresh-more}
 use Rattle.fast_loops.proofs.registers.are_fresh.Goals as goal
 
 pub loop-stmt-preserved : goal.loop-stmt-preserved

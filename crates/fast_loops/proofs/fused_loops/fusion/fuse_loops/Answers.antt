@@ -1,7 +1,7 @@
 use Rattle.std.proofs.Common.{ap, ◌∙◌}
 use Rattle.icode.specs.Limits.{are_phases_within}
 use Rattle.icode.specs.Plain.{plain_phases}
-use Rattle.fast_loops.proofs.FusedLoops.Limited.{fused-within}
+use Rattle.fast_loops.proofs.FusedLoops.Programs.{fused-within}
 use Rattle.fast_loops.proofs.fused_loops.fusion.fuse_loops.Goals as goal
 
 pub invariant_of-result : goal.invariant_of-result

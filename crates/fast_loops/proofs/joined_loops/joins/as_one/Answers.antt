@@ -1,7 +1,7 @@
 use Rattle.std.proofs.Common.{◌∙◌, sym, ap}
 use Rattle.icode.specs.Plain.{plain_body}
 use Rattle.fast_loops.specs.JoinedLoops.JoinedLoops.{both_as_one, as_one}
-use Rattle.fast_loops.proofs.Alone.{others-counts, op-counts, loop-seen}
+use Rattle.fast_loops.proofs.Counts.{others-counts, op-counts, loop-seen}
 use Rattle.fast_loops.proofs.JoinedLoops.Seen.{not-one}
 use Rattle.fast_loops.proofs.joined_loops.joins.as_one.Goals as goal
 

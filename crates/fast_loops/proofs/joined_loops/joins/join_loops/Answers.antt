@@ -1,7 +1,7 @@
 use Rattle.std.proofs.Common.{ap, ◌∙◌}
 use Rattle.icode.specs.Limits.{are_tables_within, are_phases_within}
 use Rattle.icode.specs.Plain.{plain_tables, plain_phases}
-use Rattle.fast_loops.proofs.JoinedLoops.Limited.{phases-within}
+use Rattle.fast_loops.proofs.JoinedLoops.Steps.{phases-within}
 use Rattle.fast_loops.proofs.joined_loops.joins.join_loops.Goals as goal
 
 pub invariant_of-result : goal.invariant_of-result

@@ -5,7 +5,7 @@ use Rattle.icode.specs.Plain.{PlainBody, plain_phases}
 use Rattle.fast_loops.specs.LoopLanes.Lanes.{are_lanable, laned_body}
 use Rattle.fast_loops.specs.LoopLanes.View.{phases_if, phases_made}
 use Rattle.fast_loops.proofs.LoopLanes.Choices.{made_if}
-use Rattle.fast_loops.proofs.LoopLanes.LimitedNests.{header-within, phases-within}
+use Rattle.fast_loops.proofs.LoopLanes.Limited.{header-within, phases-within}
 use Rattle.fast_loops.proofs.loop_lanes.lanes.lane_loops.Goals as goal
 
 pub invariant_of-result : goal.invariant_of-result

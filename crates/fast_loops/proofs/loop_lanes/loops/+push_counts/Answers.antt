@@ -1,5 +1,5 @@
 use Rattle.std.proofs.Common.{◌++◌, ◌∙◌, sym, ap, append-nil}
-use Rattle.fast_loops.proofs.Alone.{others-counts, op-counts}
+use Rattle.fast_loops.proofs.Counts.{others-counts, op-counts}
 use Rattle.fast_loops.proofs.loop_lanes.loops.+push_counts.Goals as goal
 
 pub returns-then-body-ne1 : goal.returns-then-body-ne1

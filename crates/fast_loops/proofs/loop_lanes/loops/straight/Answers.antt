@@ -1,11 +1,10 @@
-use Rattle.std.proofs.Common.{◌∙◌, refl, sym, ap, arith}
+use Rattle.std.proofs.Common.{◌∙◌, refl, sym, ap, arith, List}
 use Rattle.icode.specs.Plain.{plain_stmt, Do, body_of}
 use Rattle.fast_loops.specs.LoopLanes.View.{plain_ops}
 use Rattle.fast_loops.proofs.LoopLanes.Made.{straight_is, whole}
 use Rattle.fast_loops.proofs.loop_lanes.loops.straight.Goals as goal
 use Rattle.std.specs.Prelude.{map}
 use Rattle.icode.specs.declared.program.Op.{Op}
-use Rattle.std.proofs.Common.{List}
 
 pub returns : goal.returns
 returns c =

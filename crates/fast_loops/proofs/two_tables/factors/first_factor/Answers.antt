@@ -1,6 +1,5 @@
 use Rattle.std.proofs.Common.{length, arith}
-use Rattle.fast_loops.proofs.TwoTables.Cutting.{list_more}
-use Rattle.fast_loops.proofs.TwoTables.Dividing.{block_room}
+use Rattle.fast_loops.proofs.TwoTables.Cutting.{list_more, block_room}
 use Rattle.fast_loops.proofs.two_tables.factors.first_factor.Goals as goal
 
 pub entry_at-requires : goal.entry_at-requires

@@ -1,7 +1,7 @@
 use Rattle.std.proofs.Common.{◌^◌, ap, ◌∙◌}
 use Rattle.std.specs.Prelude.{nat_lt}
 use Rattle.icode.specs.Program.{plain_program}
-use Rattle.fast_loops.proofs.Phases.{phase_length}
+use Rattle.fast_loops.proofs.InPlace.{phase_length}
 use Rattle.fast_loops.proofs.two_tables.room.is_short.Goals as goal
 
 pub returns : goal.returns

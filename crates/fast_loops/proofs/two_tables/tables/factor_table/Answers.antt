@@ -2,7 +2,7 @@ use Rattle.std.proofs.Common.{ap, sym, ◌∙◌}
 use Rattle.icode.specs.Program.{plain_program}
 use Rattle.fast_loops.specs.TwoTables.Factors.{cut_of, first_factor, second_factor}
 use Rattle.fast_loops.specs.TwoTables.View.{plain_cut}
-use Rattle.fast_loops.proofs.TwoTables.Made.{may_not, is_no_product, is_product, may_can, some_width, tested}
+use Rattle.fast_loops.proofs.TwoTables.Programs.{may_not, is_no_product, is_product, may_can, some_width, tested}
 use Rattle.fast_loops.proofs.two_tables.tables.factor_table.Goals as goal
 
 pub first_factor-requires : goal.first_factor-requires

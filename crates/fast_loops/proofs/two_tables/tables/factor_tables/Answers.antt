@@ -1,6 +1,6 @@
 use Rattle.std.proofs.Common.{length, arith}
 use Rattle.icode.specs.Program.{plain_program}
-use Rattle.fast_loops.proofs.TwoTables.Made.{none_done, one_more, all_done}
+use Rattle.fast_loops.proofs.TwoTables.Programs.{none_done, one_more, all_done}
 use Rattle.fast_loops.proofs.two_tables.tables.factor_tables.Goals as goal
 
 pub loop-table-init : goal.loop-table-init

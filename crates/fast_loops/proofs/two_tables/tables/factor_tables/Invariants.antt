@@ -1,6 +1,6 @@
 use Rattle.std.proofs.Common.{length}
 use Rattle.icode.specs.Program.{plain_program}
-use Rattle.fast_loops.proofs.TwoTables.Made.{AreDone}
+use Rattle.fast_loops.proofs.TwoTables.Programs.{AreDone}
 use Rattle.fast_loops.proofs.two_tables.tables.factor_tables.Given as goal
 
 abbrev pub invariant-loop-table : goal.invariant-loop-table

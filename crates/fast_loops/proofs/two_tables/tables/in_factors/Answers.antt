@@ -1,6 +1,6 @@
 use Rattle.std.proofs.Common.{arith}
 use Rattle.fast_loops.specs.TwoTables.View.{plain_cut}
-use Rattle.fast_loops.proofs.TwoTables.Made.{is_made, program_made}
+use Rattle.fast_loops.proofs.TwoTables.Programs.{is_made, program_made}
 use Rattle.fast_loops.proofs.two_tables.tables.in_factors.Goals as goal
 
 pub invariant_of-result : goal.invariant_of-result
