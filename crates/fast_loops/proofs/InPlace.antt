@@ -133,10 +133,6 @@ module _ (f : PlainBody → PlainBody) (none : f NoStmts ≡ NoStmts) (bodies : 
       body_is p (map f bodies) (slice_index_or (map f bodies) phase NoStmts) [] q
       ∙ ap (λ body. steps_of_body p body [] q) (body-at phase)
 
--- ---- one program in place of another, with its size, modulus, line and processors. Where the steps of each phase and
--- processor fit, and store and touch no other words, the program fits and its processors are apart. Where they keep a
--- relation on registers, it leaves the same in order, and so in every order of turns.
-
 -- ---- sums and lines
 
 sum_of_smaller : (n : ℕ) (f g : ℕ → ℕ) → ((i : ℕ) → i < n → f i ≤ g i) → sum_below n f ≤ sum_below n g

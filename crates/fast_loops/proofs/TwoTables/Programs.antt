@@ -262,7 +262,7 @@ no_fewer least table p =
     omega (arith, length-set p.tables table first, long))
     (λ e. omega arith)
 
--- ---- one table after another
+-- ---- the tables, from the first one on
 
 -- the tables before this one are done, of as many as the program has
 pub record AreDone (least : ℕ) (p : PlainProgram) (count table : ℕ) (q : PlainProgram) (many : ℕ) : Type 0 where
