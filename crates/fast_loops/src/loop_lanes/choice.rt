@@ -62,7 +62,8 @@ fn are_factors(
     products: &[Op],
     stored: &[u64],
 ) -> bool
-    ensures { result ≡ are_factors group.lanes group.depth (plain_factors by.entry) bound count (plain_ops products.now) stored.now }
+    ensures { result
+        ≡ are_factors group.lanes group.depth (plain_factors by.entry) bound count (plain_ops products.now) stored.now }
 {
     let width = group.lanes as u128 * stride(group.depth, by.parts) as u128;
     (are_linear(by.parts) && by.constant as u128 + (count as u128 + width) < (1 << 32))
@@ -195,7 +196,8 @@ fn loaded_factored(
     requires registers { regs < 2 ^ 20 }
     requires ops { plain_ops ops.now ≡ others (ops_in (plain_body round.now)) }
     ensures { IfOk result (λ made. ops_made made
-        ≡ loaded_factored_if group.lanes regs group.depth (stored_target target.entry) (ops_in (plain_body round.now))) }
+        ≡ loaded_factored_if group.lanes regs group.depth (stored_target target.entry)
+        (ops_in (plain_body round.now))) }
 {
     let count = count_stores(round);
     let stored = stored_registers(alloc, round)?;

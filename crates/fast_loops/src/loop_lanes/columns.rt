@@ -225,7 +225,8 @@ pub(crate) fn factored_registers(alloc: Global, ops: &[Op]) -> Result<Vec<u64>, 
 fn are_tiles(group: Group, parts: &[Part], round: &[Stmt], columns: Columns<'_>) -> bool
     requires { 1 ≤ group.lanes }
     ensures { (array : Array) → result
-        ≡ are_tiles group.lanes group.depth (stored_into array parts.now) (ops_in (plain_body round.now)) (columns_of columns.entry) }
+        ≡ are_tiles group.lanes group.depth (stored_into array parts.now) (ops_in (plain_body round.now))
+        (columns_of columns.entry) }
 {
     let count = columns.turned.len() as u64;
     let step = stride(group.depth, parts);
@@ -245,7 +246,8 @@ pub(crate) fn are_columns(
 ) -> bool
     requires { 1 ≤ group.lanes }
     ensures { result
-        ≡ are_columns group.lanes group.depth (stored_into array parts.now) (ops_in (plain_body round.now)) (columns_of columns.entry) }
+        ≡ are_columns group.lanes group.depth (stored_into array parts.now) (ops_in (plain_body round.now))
+        (columns_of columns.entry) }
 {
     are_tiles(group, parts, round, columns)
         && (are_stores_by_lane(group.depth, array, parts, round)

@@ -86,7 +86,8 @@ pub(crate) fn are_rows_behind(
     requires few { count ≤ length ops.now }
     requires constants { constants.now ≡ stored_constants (plain_ops ops.now) }
     ensures { result
-        ≡ are_rows_behind group.lanes group.depth (stored_target target.entry) (plain_ops ops.now) (stored_target from.entry) count }
+        ≡ are_rows_behind group.lanes group.depth (stored_target target.entry) (plain_ops ops.now)
+        (stored_target from.entry) count }
 {
     let (_, rest) = ops.split_at(count as usize);
     are_whole(group, target, from, count)
@@ -133,8 +134,8 @@ fn are_behind(
     requires some { 1 ≤ group.lanes }
     requires few { count ≤ length columns.front.now }
     ensures { result
-        ≡ are_behind group.lanes group.depth (stored_target target.entry) (ops_in (plain_body round.now)) (columns_of columns.entry)
-        (stored_target from.entry) count }
+        ≡ are_behind group.lanes group.depth (stored_target target.entry) (ops_in (plain_body round.now))
+        (columns_of columns.entry) (stored_target from.entry) count }
 {
     are_whole(group, target, from, count)
         && (are_least(count, columns.turned)
@@ -163,7 +164,8 @@ fn push_load(
     requires word { word < tiles.count }
     requires lane { lane < tiles.group.lanes }
     requires few { tiles.group.lanes ≤ 16 }
-    ensures { OnOk result (plain_ops ops.new.items ≡ plain_ops ops.old.items ++ load_of tiles.entry register word lane ∷ []) }
+    ensures { OnOk result (plain_ops ops.new.items
+        ≡ plain_ops ops.old.items ++ load_of tiles.entry register word lane ∷ []) }
 {
     let place = placed(alloc, tiles.group, lane, word, tiles.parts)?;
     ops.push(Op::Load {
@@ -186,7 +188,8 @@ fn push_load_tile(
     requires room { has_room tiles ≡ true }
     requires register { register < 2 ^ 40 }
     requires word { word < tiles.count }
-    ensures { OnOk result (plain_ops ops.new.items ≡ plain_ops ops.old.items ++ load_tile_of tiles.entry register word) }
+    ensures { OnOk result (plain_ops ops.new.items
+        ≡ plain_ops ops.old.items ++ load_tile_of tiles.entry register word) }
 {
     for lane in 0..tiles.group.lanes {
         push_load(alloc, tiles, register, word, lane, ops)?;
@@ -243,7 +246,8 @@ pub(crate) fn loaded(
     requires entries { has_entries group.lanes group.depth (length (stores (ops_in (plain_body round.now))))
         (option_map plain_factors columns.by) ≡ true }
     ensures { IfOk result (λ made. ops_made made
-        ≡ in_loaded_if group.lanes regs group.depth (stored_target target.entry) (ops_in (plain_body round.now)) (columns_of columns.entry)) }
+        ≡ in_loaded_if group.lanes regs group.depth (stored_target target.entry) (ops_in (plain_body round.now))
+        (columns_of columns.entry)) }
 {
     let Some(from) = first_load(columns.front) else {
         return Ok(None);

@@ -48,19 +48,15 @@ fn renumber_op(at: u64, turned: &[u64], op: &mut Op)
     ensures { plain_op op.new ≡ renumbered_op (renumbered at turned.now) (plain_op op.old) }
 {
     match op {
-        Op::Load { register, .. } => *register = renumbered(at, turned, *register),
-        Op::Store { register, .. } => *register = renumbered(at, turned, *register),
-        Op::Zero { register } => *register = renumbered(at, turned, *register),
+        Op::Load { register, .. } | Op::Store { register, .. } | Op::Zero { register } => {
+            *register = renumbered(at, turned, *register);
+        }
         Op::Add {
             register,
             left,
             right,
-        } => {
-            *register = renumbered(at, turned, *register);
-            *left = renumbered(at, turned, *left);
-            *right = renumbered(at, turned, *right);
         }
-        Op::Sub {
+        | Op::Sub {
             register,
             left,
             right,
@@ -69,27 +65,18 @@ fn renumber_op(at: u64, turned: &[u64], op: &mut Op)
             *left = renumbered(at, turned, *left);
             *right = renumbered(at, turned, *right);
         }
-        Op::Neg { register, source } => {
-            *register = renumbered(at, turned, *register);
-            *source = renumbered(at, turned, *source);
-        }
-        Op::MulConst {
+        Op::Neg { register, source }
+        | Op::MulConst {
             register,
             source,
             ..
-        } => {
-            *register = renumbered(at, turned, *register);
-            *source = renumbered(at, turned, *source);
         }
-        Op::MulTable {
+        | Op::MulTable {
             register,
             source,
             ..
-        } => {
-            *register = renumbered(at, turned, *register);
-            *source = renumbered(at, turned, *source);
         }
-        Op::Tile { register, source } => {
+        | Op::Tile { register, source } => {
             *register = renumbered(at, turned, *register);
             *source = renumbered(at, turned, *source);
         }
@@ -144,7 +131,8 @@ fn front_ops(
     requires wide { group.lanes * stride group.depth (plain_parts target.parts.now) < 2 ^ 32 }
     requires by_lane { list_all (is_by_lane group.depth (stored_into target.array target.parts.now))
         (plain_ops columns.front.now) ≡ true }
-    ensures { IfOk result (λ ops. plain_ops ops.items ≡ laned_front group.lanes from group.depth columns.entry.turned.now (plain_ops columns.entry.front.now)) }
+    ensures { IfOk result (λ ops. plain_ops ops.items
+        ≡ laned_front group.lanes from group.depth columns.entry.turned.now (plain_ops columns.entry.front.now)) }
 {
     let mut ops = Vec::new(alloc);
     for op in columns.front {
@@ -168,7 +156,8 @@ fn push_product(
     requires room { has_room tiles ≡ true }
     requires word { word < tiles.count }
     requires lane { lane < tiles.group.lanes }
-    ensures { OnOk result (plain_ops ops.new.items ≡ plain_ops ops.old.items ++ product_of tiles.entry register word lane) }
+    ensures { OnOk result (plain_ops ops.new.items
+        ≡ plain_ops ops.old.items ++ product_of tiles.entry register word lane) }
 {
     let Some(by) = tiles.by else {
         return Ok(());
@@ -223,7 +212,8 @@ fn push_tile(
     requires room { has_room tiles ≡ true }
     requires register { register < 2 ^ 40 }
     requires word { word < tiles.count }
-    ensures { OnOk result (plain_ops ops.new.items ≡ plain_ops ops.old.items ++ tile_of tiles.entry register source word) }
+    ensures { OnOk result (plain_ops ops.new.items
+        ≡ plain_ops ops.old.items ++ tile_of tiles.entry register source word) }
 {
     ops.push(Op::Tile { register, source })?;
     for lane in 0..tiles.group.lanes {
