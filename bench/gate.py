@@ -3,7 +3,7 @@
 
     bench/gate.py [FILE]
 
-Runs `rt ci` at the top of the repository, on a machine that knows no proof, and looks twice a second at the prover's
+Runs `rt ci` at the top of the repository, on a machine where no proof is kept, and looks twice a second at the prover's
 processes in /proc. Prints a table when the run has ended, all that the run and its children took, and the longest chain of
 crates that wait for one another, in minutes as they were. What `rt ci` says goes to the file, if one is named.
 """
@@ -82,7 +82,7 @@ class Provers:
 
 
 def longest_chain(took):
-    """The crates of the chain whose proofs took longest, one behind the other."""
+    """The crates of the chain whose proofs took longest, one after the other."""
     graph = {}
     for line in (TOP / "crates.txt").read_text().splitlines():
         name, colon, below = line.partition("#")[0].partition(":")

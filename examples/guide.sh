@@ -2,7 +2,7 @@
 # Runs the commands of docs/GUIDE.md and compares what they answer with what the guide says, letter for letter.
 # usage: guide.sh [--write] [GUIDE.md]     --write puts the answers into the guide
 #
-# In a block ```console a line `$ COMMAND` is a command, lines `> ..` behind it go on with it, and what follows up to
+# In a block ```console a line `$ COMMAND` is a command, lines `> ..` after it go on with it, and what follows up to
 # the next command is its answer: standard output and standard error. All run in one shell, in an empty folder with
 # examples/ in it. Blocks of other names are not run; a block ```console if TOOL is run where the command TOOL is there.
 # The pictures that the commands leave are those beside the guide. SPIRAL and SPIRAL_FAST name the programs, if not the

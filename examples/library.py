@@ -8,7 +8,7 @@
     void NAME_phase(uint64_t k, uint64_t q, uint64_t *out, const uint64_t *in, uint64_t *work)
 
 NAME computes the whole. NAME_phase computes phase k of processor q: a program on threads calls it for each k, with all
-q at once and a barrier behind each k. Constant tables are all that the file keeps, so calls with arrays of their own
+q at once and a barrier after each k. Constant tables are all that the file keeps, so calls with arrays of their own
 may run at the same time. The header says how long the arrays are. `spiral-fast --name NAME` writes the same of its own
 text.
 """
@@ -68,7 +68,7 @@ def function_file(text, name):
 
 
 def declared(lines, name):
-    """The lines with the two declarations behind the one that includes stdint.h."""
+    """The lines with the two declarations after the one that includes stdint.h."""
     at = lines.index("#include <stdint.h>") + 1
     return [*lines[:at], *declarations(name), *lines[at:]]
 

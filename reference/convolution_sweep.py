@@ -202,7 +202,7 @@ def agrees_with_itself(request, h, x):
 
 
 def faulty_data(sweep, line, h, x):
-    """Data that end too early or have a fault, in h and behind it; what stands behind h is nothing to --code."""
+    """Data that end too early or have a fault, in h and after it. What stands after h does not matter to --code."""
     size = len(h)
     bad = ["x", "-1", "1,2", "18446744073709551616", "000000000000000000001"]
     whole = list(map(str, h + x))

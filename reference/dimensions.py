@@ -25,7 +25,7 @@ class Several(namedtuple("Several", "sizes roots modulus procs line lanes unroll
 
     @property
     def others(self):
-        """The dimensions behind the first, on one processor and one lane."""
+        """The dimensions after the first, on one processor and one lane."""
         return self._replace(sizes=self.sizes[1:], roots=self.roots[1:], procs=1, line=1, lanes=1)
 
 

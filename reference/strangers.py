@@ -130,7 +130,7 @@ class Checked:
 
 
 def parts_of(text):
-    """The lines before the first empty one, and what stands behind it."""
+    """The lines before the first empty one, and what stands after it."""
     if text.startswith(b"\n"):
         return b"", text[1:]
     front, empty, data = text.partition(b"\n\n")

@@ -1,5 +1,5 @@
 #!/usr/bin/env bash
-# Compares what the program writes for some hundred requests with the reference in Python, command by command.
+# Compares what the program writes for several hundred requests with the reference in Python, command by command.
 # The program is $1, or else the built one.
 set -euo pipefail
 top=$(cd "$(dirname "$0")/.." && pwd)
