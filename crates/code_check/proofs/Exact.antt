@@ -5,7 +5,7 @@ use Rattle.icode.specs.Limits.{IsWithinLimits}
 use Rattle.icode.specs.Plain.{PlainProgram}
 use Rattle.code_check.specs.declared.fault.CheckFault.{CheckFault}
 use Rattle.code_check.specs.declared.fault.CheckFault.TheVariants.{OverSteps, Address, Register, LineShared, NoMemory}
-use Rattle.code_check.specs.Refusals.{PassesCheck, IsCause, FitsIfShared}
+use Rattle.code_check.specs.Refusals.{PassesCheck, IsCause, FitsIfShared, action_limit}
 use Rattle.code_check.proofs.Causes.{one_cause, none_if_passed}
 use Rattle.code_check.proofs.Whole.{sound_fits}
 
@@ -31,7 +31,7 @@ refused_for_cause limit p (Err f) passes cause fault ne h =
 
 -- what is refused for a shared line fits
 
-cause_fits : (p : PlainProgram) → IsWithinLimits p → (f : CheckFault) → IsCause 100000000 p f → FitsIfShared p f
+cause_fits : (p : PlainProgram) → IsWithinLimits p → (f : CheckFault) → IsCause action_limit p f → FitsIfShared p f
 cause_fits p limits (OverSteps n) h = tt
 cause_fits p limits (Address f q i) h = tt
 cause_fits p limits (Register f q i) h = tt
@@ -39,6 +39,6 @@ cause_fits p limits (LineShared f k a b) h = sound_fits p limits h.few h.sound
 cause_fits p limits NoMemory h = tt
 
 pub shared_fits : {X : Type 0} (p : PlainProgram) → IsWithinLimits p → (r : Result X CheckFault) →
-    IfErr r (IsCause 100000000 p) → IfErr r (FitsIfShared p)
+    IfErr r (IsCause action_limit p) → IfErr r (FitsIfShared p)
 shared_fits p limits (Ok v) cause = tt
 shared_fits p limits (Err f) cause = cause_fits p limits f cause

@@ -15,7 +15,7 @@ use Rattle.code_check.specs.declared.fault.CheckFault.TheVariants.{OverSteps, Ad
 use Rattle.code_check.specs.declared.lines.Sharing.{Sharing}
 use Rattle.code_check.specs.Phases.{IsPhaseSound, IsPhaseFault}
 use Rattle.code_check.specs.Refusals.{IsSound, AreSound, Share, IsLeastShared, IsFirstShared, PassesCheck, IsCause}
-use Rattle.code_check.specs.Refusals.{action_count}
+use Rattle.code_check.specs.Refusals.{action_count, action_limit}
 use Rattle.code_check.specs.Uses.{sooner}
 use Rattle.code_check.proofs.Regular.{factors_fit}
 use Rattle.code_check.proofs.Tables.{lines_touched, no_list_past_phases}
@@ -109,7 +109,7 @@ pub checked_shared : (limit : ℕ) (p : PlainProgram) (n : ℕ) (s : Sharing) �
 checked_shared limit p n s few past h = record { few = few; sound = all_sound p n (Some s) past h; first = h.sharing }
 
 -- what is short and sound fits
-pub sound_fits : (p : PlainProgram) → IsWithinLimits p → action_count p ≤ 100000000 → AreSound p → PlainFits p
+pub sound_fits : (p : PlainProgram) → IsWithinLimits p → action_count p ≤ action_limit → AreSound p → PlainFits p
 sound_fits p limits few all = record { few = omega (arith, few); each = λ phase q small k d lt. fits phase q small k d lt }
   where
     fits : (phase q : ℕ) → q < p.procs → All (StepFits p) (steps_of_phase p phase q)
@@ -119,5 +119,5 @@ sound_fits p limits few all = record { few = omega (arith, few); each = λ phase
         record { numbers = sound.place.numbers; place = sound.place.inside; registers = sound.registers; factors = factors }
 
 -- what passes fits
-pub passed_fits : (p : PlainProgram) → IsWithinLimits p → PassesCheck 100000000 p → PlainFits p
+pub passed_fits : (p : PlainProgram) → IsWithinLimits p → PassesCheck action_limit p → PlainFits p
 passed_fits p limits h = sound_fits p limits h.few h.sound

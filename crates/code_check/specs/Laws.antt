@@ -7,7 +7,7 @@ use Rattle.icode.specs.Plain.{PlainProgram}
 use Rattle.icode.specs.Program.{plain_program, code_of, Fits}
 use Rattle.code_check.specs.declared.fault.CheckFault.{CheckFault}
 use Rattle.code_check.specs.declared.fault.CheckFault.TheVariants.{NoMemory}
-use Rattle.code_check.specs.Refusals.{PassesCheck, IsCause}
+use Rattle.code_check.specs.Refusals.{PassesCheck, IsCause, action_limit}
 
 -- two causes of a program are one
 abbrev pub OneCause : Type 0
@@ -30,4 +30,4 @@ CausesDecide = (limit : ℕ) (p : PlainProgram) → IsWithinLimits p → PassesC
 -- what passes a limit below 2^59 fits, and every order of turns leaves the same memory
 abbrev pub PassedFits : Type 0
 PassedFits =
-    (p : Program) → PassesCheck 100000000 (plain_program p) → Fits p × ((x turns : List ℕ) → (runs (code_of p) x turns).memory ≡ (runs (code_of p) x []).memory)
+    (p : Program) → PassesCheck action_limit (plain_program p) → Fits p × ((x turns : List ℕ) → (runs (code_of p) x turns).memory ≡ (runs (code_of p) x []).memory)

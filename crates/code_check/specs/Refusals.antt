@@ -7,6 +7,10 @@ use Rattle.icode.specs.Plain.{PlainProgram}
 use Rattle.code_check.specs.declared.fault.CheckFault.{CheckFault}
 use Rattle.code_check.specs.declared.fault.CheckFault.TheVariants.{OverSteps, Address, Register, LineShared, NoMemory}
 
+-- how many actions a program may have at most
+abbrev pub action_limit : ℕ
+action_limit = 100000000
+
 -- how many actions the phases and processors have together
 abbrev pub action_count : PlainProgram → ℕ
 action_count p = sum_below (length p.phases) (λ phase. sum_below p.procs (λ q. length (steps_of_phase p phase q)))

@@ -25,7 +25,7 @@ impl<'a> Model for Verified<'a> {
     ghost use Rattle.icode.specs.Program.{plain_program};
     ghost use Rattle.icode.specs.contracts.program.Program as of_program;
     ghost use Rattle.std.specs.Coded.{codes};
-    ghost use Rattle.code_check.specs.Refusals.{PassesCheck};
+    ghost use Rattle.code_check.specs.Refusals.{PassesCheck, action_limit};
 
     ghost Value = { Program };
 
@@ -33,7 +33,7 @@ impl<'a> Model for Verified<'a> {
 
     ghost view = { λ v. v.program.now };
 
-    ghost invariant = { λ v. PassesCheck 100000000 (plain_program v.program.now) };
+    ghost invariant = { λ v. PassesCheck action_limit (plain_program v.program.now) };
 }
 
 // The check, phase by phase.

@@ -1,70 +1,106 @@
--- The words of a program that passes the check leave what it leaves.
-use Rattle.std.proofs.Common.{◌≡◌, ℕ, ◌==◌, All, length, ◌<◌, ◌≤◌, Bool, true, false, inl, inr, refl, sym, ap}
-use Rattle.std.proofs.Common.{subst, ◌∙◌}
-use Rattle.std.specs.Prelude.{if◌then◌else◌}
+-- The words of a program that passes the check are sound.
+use Rattle.std.proofs.Common.{◌≡◌, ℕ, zero, suc, ◌+◌, ◌==◌, ◌&&◌, All, List, [], length, map, ◌<◌, ◌≤◌, Bool, true, false}
+use Rattle.std.proofs.Common.{inl, inr, refl, sym, ap, subst, ◌∙◌, arith}
+use Rattle.std.specs.Prelude.{if◌then◌else◌, slice_index_or}
+use Rattle.std.specs.List.{list_all}
 use Rattle.icode.specs.Actions.{PlainFits, plain_code}
 use Rattle.icode.specs.declared.program.Program.{Program}
+use Rattle.icode.specs.Limits.{IsWithinLimits}
 use Rattle.icode.specs.Machine.{IsApart, results}
-use Rattle.icode.specs.Plain.{PlainProgram}
+use Rattle.icode.specs.Plain.{PlainBody, PlainProgram}
 use Rattle.icode.specs.Program.{plain_program, code_of, Fits}
 use Rattle.word_code.specs.InPlace.InPlace.{in_place}
-use Rattle.word_code.specs.InPlace.Laws.{LeavesAlike}
+use Rattle.word_code.proofs.Allowed.{lazy_for}
 use Rattle.word_code.proofs.InPlace.Fitting.{in_place_fits, in_place_apart}
-use Rattle.fast_loops.specs.Interchange.{interchanged}
+use Rattle.word_code.proofs.InPlace.Law.{in_place_is_same}
+use Rattle.word_code.proofs.Numbers.{quickened_fits}
+use Rattle.word_code.proofs.Quickened.{quickened_is_same}
+use Rattle.fast_loops.specs.Interchange.{are_nests, interchanged, interchanged_body}
 use Rattle.fast_loops.proofs.Programs.{interchanged_program}
 use Rattle.fast_loops.specs.JoinedLoops.JoinedLoops.{joined}
 use Rattle.fast_loops.proofs.JoinedLoops.Law.{joined_does_the_same}
 use Rattle.fast_loops.specs.LoopLanes.Lanes.{IsLanes, can_be_laned, laned}
 use Rattle.fast_loops.proofs.LoopLanes.Law.{laned_leaves_the_same}
-use Rattle.fast_loops.specs.FusedLoops.FusedLoops.{large_size}
+use Rattle.fast_loops.specs.FusedLoops.FusedLoops.{fused_phases, large_size, may_be_fused}
 use Rattle.fast_loops.proofs.FusedLoops.Law.{fused_leaves_the_same}
 use Rattle.fast_loops.specs.TwoTables.Laws.{IsInPlaceOf}
-use Rattle.fast_loops.specs.TwoTables.TwoTables.{factored, large_table}
+use Rattle.fast_loops.specs.TwoTables.Factors.{Cut, cut_of}
+use Rattle.fast_loops.specs.TwoTables.TwoTables.{factored, factored_at, factored_from, in_factors, is_cut_well}
+use Rattle.fast_loops.specs.TwoTables.TwoTables.{large_table, may_be_split}
 use Rattle.fast_loops.proofs.TwoTables.Law.{factored_leaves_the_same}
 use Rattle.fast_loops.proofs.InPlace.{after, itself}
 use Rattle.word_code.specs.declared.program.WordProgram.{WordProgram}
 use Rattle.word_code.specs.declared.choose.WordSize.{WordSize}
 use Rattle.word_code.specs.Choice.{allows, fast_words, laziness_for}
-use Rattle.word_code.specs.Quicken.{Laziness, quickened}
-use Rattle.word_code.specs.Bare.{WordsFit}
-use Rattle.word_code.specs.Same.{LeavesTheSame, FitsAs}
+use Rattle.word_code.specs.Laws.{IsLazyWithin}
 use Rattle.word_code.specs.View.{plain_word_program}
-use Rattle.word_code.specs.WordMachine.{word_results}
-use Rattle.word_code.specs.WordProgram.{PlainWordProgram, word_code}
 use Rattle.fast_main.specs.FastWords.Asked.{IsLaneCount}
 use Rattle.fast_main.specs.Translation.{has_cheap_products, on_several, on_lanes, in_blocks, prepared, words_for}
-use Rattle.fast_main.specs.Translation.{IsFaithful, AreSoundWords}
+use Rattle.fast_main.specs.Translation.{AreSoundWords}
 use Rattle.fast_main.proofs.Laned.{laned_by}
 
 -- ---- the prepared program
 
--- where p fits and is apart, so does q, of the same numbers, and it leaves what p leaves
-abbrev Keeps : PlainProgram → PlainProgram → Type 0
-Keeps q p = PlainFits p → ((phase : ℕ) → IsApart (plain_code p) phase) → IsInPlaceOf q p
+-- q has the lines of p; where p fits and is apart, so does q, of the same numbers, and it leaves what p leaves
+record Keeps (q p : PlainProgram) : Type 0 where
+  line : q.line ≡ p.line
+  law : PlainFits p → ((phase : ℕ) → IsApart (plain_code p) phase) → IsInPlaceOf q p
+
+keeps_itself : (p : PlainProgram) → Keeps p p
+keeps_itself p = record { line = refl; law = itself p }
 
 then_keeps : (r q p : PlainProgram) → Keeps r q → Keeps q p → Keeps r p
-then_keeps r q p one two fits apart = let first = two fits apart in after r q p (one first.fits first.apart) first
+then_keeps r q p one two =
+    record {
+      line = one.line ∙ two.line;
+      law = λ fits apart. let first = two.law fits apart in after r q p (one.law first.fits first.apart) first;
+    }
 
-laned_frame : (v : ℕ) (p : PlainProgram) (b : Bool) →
-    ((laned_by v p b).size ≡ p.size) × ((laned_by v p b).modulus ≡ p.modulus)
-laned_frame v p true = (refl, refl)
-laned_frame v p false = (refl, refl)
+-- where a test holds, its phases alone are others
+line_if : (p : PlainProgram) (b : Bool) (phases : List PlainBody) →
+    (if b then record p { phases = phases } else p).line ≡ p.line
+line_if p true phases = refl
+line_if p false phases = refl
+
+interchanged_is : (p : PlainProgram) → Keeps (interchanged p) p
+interchanged_is p =
+    record {
+      line = line_if p (list_all (are_nests p.lanes) p.phases) (map (interchanged_body p.lanes) p.phases);
+      law = interchanged_program p;
+    }
+
+record Frame (q p : PlainProgram) : Type 0 where
+  size : q.size ≡ p.size
+  modulus : q.modulus ≡ p.modulus
+  line : q.line ≡ p.line
+
+laned_frame : (v : ℕ) (p : PlainProgram) (b : Bool) → Frame (laned_by v p b) p
+laned_frame v p true = record { size = refl; modulus = refl; line = refl }
+laned_frame v p false = record { size = refl; modulus = refl; line = refl }
 
 laned_is : (v : ℕ) (p : PlainProgram) → IsLanes v → Keeps (laned v p) p
-laned_is v p lanes fits apart =
-    let law = laned_leaves_the_same v p lanes fits apart in
+laned_is v p lanes =
     let frame = laned_frame v p (can_be_laned v p) in
-    record { size = frame.0; modulus = frame.1; fits = law.fits; apart = law.apart; same = law.same }
+    record {
+      line = frame.line;
+      law = λ fits apart.
+          let law = laned_leaves_the_same v p lanes fits apart in
+          record { size = frame.size; modulus = frame.modulus; fits = law.fits; apart = law.apart; same = law.same };
+    }
 
 joined_is : (p : PlainProgram) → Keeps (joined p) p
-joined_is p fits apart =
-    let law = joined_does_the_same p in
+joined_is p =
+    let same = joined_does_the_same p in
     record {
-      size = refl;
-      modulus = refl;
-      fits = law.fits fits;
-      apart = λ phase. subst (λ code. IsApart code phase) (sym law.code) (apart phase);
-      same = λ x turns orders. ap (λ code. results code x turns) law.code ∙ (itself p fits apart).same x turns orders;
+      line = refl;
+      law = λ fits apart. record {
+        size = refl;
+        modulus = refl;
+        fits = same.fits fits;
+        apart = λ phase. subst (λ code. IsApart code phase) (sym same.code) (apart phase);
+        same = λ x turns orders.
+            ap (λ code. results code x turns) same.code ∙ (itself p fits apart).same x turns orders;
+      };
     }
 
 -- on lanes as its loops are, or with them joined, or as it is
@@ -74,30 +110,54 @@ several_is v p lanes = of_choice (can_be_laned v p) (can_be_laned v (joined p))
     of_choice : (b c : Bool) → Keeps (if b then laned v p else (if c then laned v (joined p) else p)) p
     of_choice true c = laned_is v p lanes
     of_choice false true = then_keeps (laned v (joined p)) (joined p) p (laned_is v (joined p) lanes) (joined_is p)
-    of_choice false false = itself p
+    of_choice false false = keeps_itself p
 
 on_lanes_is : (lanes : ℕ) (p : PlainProgram) → IsLaneCount lanes → Keeps (on_lanes lanes p) p
-on_lanes_is lanes p (inl one) = subst (λ n. Keeps (on_lanes n p) p) (sym one) (interchanged_program p)
+on_lanes_is lanes p (inl one) = subst (λ n. Keeps (on_lanes n p) p) (sym one) (interchanged_is p)
 on_lanes_is lanes p (inr some) = of_choice (lanes == 1)
   where
     of_choice : (b : Bool) → Keeps (if b then interchanged p else on_several lanes (interchanged p)) p
-    of_choice true = interchanged_program p
+    of_choice true = interchanged_is p
     of_choice false =
         then_keeps (on_several lanes (interchanged p)) (interchanged p) p
-        (several_is lanes (interchanged p) some) (interchanged_program p)
+        (several_is lanes (interchanged p) some) (interchanged_is p)
 
 in_blocks_is : (lanes : ℕ) (p : PlainProgram) → IsLaneCount lanes → Keeps (in_blocks lanes p) p
 in_blocks_is lanes p count =
-    then_keeps (in_blocks lanes p) (on_lanes lanes p) p (fused_leaves_the_same large_size (on_lanes lanes p))
+    let q = on_lanes lanes p in
+    then_keeps (in_blocks lanes p) q p
+    (record {
+      line = line_if q (may_be_fused large_size q) (fused_phases q.lanes q.phases);
+      law = fused_leaves_the_same large_size q;
+    })
     (on_lanes_is lanes p count)
+
+split_line : (p : PlainProgram) (table : ℕ) (cut : Cut) (b : Bool) →
+    (if b then in_factors p table cut else p).line ≡ p.line
+split_line p table cut true = refl
+split_line p table cut false = refl
+
+factored_line : (least n table : ℕ) (p : PlainProgram) → (factored_from least n table p).line ≡ p.line
+factored_line least zero table p = refl
+factored_line least (suc n) table p =
+    let cut = cut_of (slice_index_or p.tables table []) in
+    factored_line least n (table + 1) (factored_at least p table)
+    ∙ split_line p table cut (may_be_split least p table cut && is_cut_well p table cut)
+
+factored_is : (p : PlainProgram) → Keeps (factored large_table p) p
+factored_is p =
+    record {
+      line = factored_line large_table (length p.tables) 0 p;
+      law = factored_leaves_the_same large_table p;
+    }
 
 prepared_is : (size : WordSize) (lanes : ℕ) (p : PlainProgram) → IsLaneCount lanes → Keeps (prepared size lanes p) p
 prepared_is size lanes p count = of_choice (has_cheap_products size (in_blocks lanes p).modulus)
   where
     of_choice : (b : Bool) → Keeps (if b then factored large_table (in_blocks lanes p) else in_blocks lanes p) p
     of_choice true =
-        then_keeps (factored large_table (in_blocks lanes p)) (in_blocks lanes p) p
-        (factored_leaves_the_same large_table (in_blocks lanes p)) (in_blocks_is lanes p count)
+        then_keeps (factored large_table (in_blocks lanes p)) (in_blocks lanes p) p (factored_is (in_blocks lanes p))
+        (in_blocks_is lanes p count)
     of_choice false = in_blocks_is lanes p count
 
 -- the program in blocks, as it goes to its tables: it fits, and is apart
@@ -105,11 +165,11 @@ module _ (lanes : ℕ) (p there : Program) (count : IsLaneCount lanes)
     (is : plain_program there ≡ in_blocks lanes (plain_program p)) (fits : Fits p)
     (apart : (phase : ℕ) → IsApart (code_of p) phase) where
   pub blocks_fit : Fits there
-  blocks_fit = subst PlainFits (sym is) (in_blocks_is lanes (plain_program p) count fits apart).fits
+  blocks_fit = subst PlainFits (sym is) ((in_blocks_is lanes (plain_program p) count).law fits apart).fits
 
   pub blocks_apart : (phase : ℕ) → IsApart (code_of there) phase
   blocks_apart phase =
-      subst (λ z. IsApart (plain_code z) phase) (sym is) ((in_blocks_is lanes (plain_program p) count fits apart).apart phase)
+      subst (λ z. IsApart (plain_code z) phase) (sym is) (((in_blocks_is lanes (plain_program p) count).law fits apart).apart phase)
 
 -- ---- its words
 
@@ -117,7 +177,7 @@ module _ (size : WordSize) (lanes : ℕ) (p there : Program) (count : IsLaneCoun
     (is : plain_program there ≡ prepared size lanes (plain_program p)) (fits : Fits p)
     (apart : (phase : ℕ) → IsApart (code_of p) phase) where
   law : IsInPlaceOf (prepared size lanes (plain_program p)) (plain_program p)
-  law = prepared_is size lanes (plain_program p) count fits apart
+  law = (prepared_is size lanes (plain_program p) count).law fits apart
 
   -- the program `there` is the prepared one, and fits
   pub fits_from : Fits there
@@ -136,27 +196,30 @@ module _ (size : WordSize) (lanes : ℕ) (p there : Program) (count : IsLaneCoun
     pub words_from : plain_word_program made ≡ words_for size lanes (plain_program p)
     words_from = shared ∙ ap (in_place (plain_program there)) quick ∙ ap (λ q. in_place q (fast_words size q)) is
 
-    module _ (well : FitsAs words there) (same : LeavesTheSame words there)
-        (alike : (z : Laziness) → plain_word_program words ≡ quickened z (plain_program there) →
-        LeavesAlike (plain_word_program made) (plain_word_program words)) where
-      -- and leaves what the program leaves
-      faithful_from : IsFaithful size lanes (plain_program p)
-      faithful_from x turns orders long low =
-          let z = laziness_for size there.modulus there.lanes in
-          let long_too : (plain_word_program made).frame.size ≡ p.size =
-          ap (λ (w : PlainWordProgram). w.frame.size) words_from ∙ law.size in
-          ap (λ w. word_results (word_code w) x turns) (sym words_from)
-          ∙ alike z quick x turns (subst (λ (n : ℕ). n ≤ length x) (sym long_too) long)
-          ∙ same fits_from x turns (subst (λ (m : ℕ). All (λ v. v < m) x) (sym modulus_from) low)
-          ∙ ap (λ (z : PlainProgram). results (plain_code z) x turns) is
-          ∙ law.same x turns orders
+-- ---- what they leave
 
-      -- it fits, is apart and leaves what the program leaves
-      pub sound_from : AreSoundWords size lanes (plain_program p)
-      sound_from =
-          let q = prepared size lanes (plain_program p) in
-          record {
-            fits = subst WordsFit (sym shared ∙ words_from) (in_place_fits (plain_program there) (plain_word_program words) (well fits_from));
-            apart = in_place_apart (laziness_for size q.modulus q.lanes) q law.apart;
-            faithful = faithful_from;
-          }
+-- The words of a program that fits and is apart, with lanes and a modulus that they take, fit, are apart and leave what
+-- the program leaves
+pub sound_words : (size : WordSize) (lanes : ℕ) (p : PlainProgram) → IsLaneCount lanes → IsWithinLimits p →
+    PlainFits p → ((phase : ℕ) → IsApart (plain_code p) phase) → allows size p.modulus ≡ true →
+    AreSoundWords size lanes p
+sound_words size lanes p count limits fits apart allowed =
+    let q = prepared size lanes p in
+    let z = laziness_for size q.modulus q.lanes in
+    let keeps = prepared_is size lanes p count in
+    let law = keeps.law fits apart in
+    let range = limits.header.of_modulus in
+    let lazy : IsLazyWithin z q.modulus =
+    subst (λ m. IsLazyWithin (laziness_for size m q.lanes) m) (sym law.modulus)
+    (lazy_for size p.modulus q.lanes range.0 range.1 allowed) in
+    let some : 0 < q.modulus = subst (λ m. 0 < m) (sym law.modulus) (let two = range.0 in omega (arith, two)) in
+    let line : 1 ≤ q.line = subst (λ n. 1 ≤ n) (sym keeps.line) limits.header.of_line.0 in
+    record {
+      fits = in_place_fits q (fast_words size q) (quickened_fits z q law.fits lazy some);
+      apart = in_place_apart z q law.apart;
+      faithful = λ x turns orders long low.
+          in_place_is_same z q law.fits line x turns (subst (λ (n : ℕ). n ≤ length x) (sym law.size) long)
+          ∙ quickened_is_same z q law.fits lazy some line x turns
+          (subst (λ (m : ℕ). All (λ v. v < m) x) (sym law.modulus) low)
+          ∙ law.same x turns orders;
+    }

@@ -1,5 +1,6 @@
 pub mod FastWords
 pub mod Faithful
+pub mod Existence
 pub mod Laned
 pub mod Rerouted
 pub mod Once

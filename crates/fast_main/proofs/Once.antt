@@ -2,7 +2,7 @@
 use Rattle.std.proofs.Common.{◌≡◌, ℕ, zero, suc, ◌-◌, ◌<◌, ◌≤◌, Bool, true, false, cond, eqb, List, [], ◌∷◌, ◌++◌, Some}
 use Rattle.std.proofs.Common.{None, Ok, Err, Result, inl, inr, refl, sym, ap, subst, ◌∙◌, append_assoc, arith}
 use Rattle.icode.specs.Plain.{PlainProgram}
-use Rattle.code_check.specs.Refusals.{PassesCheck, IsCause}
+use Rattle.code_check.specs.Refusals.{PassesCheck, IsCause, action_limit}
 use Rattle.code_check.proofs.Causes.{one_cause, none_if_passed}
 use Rattle.grammar.specs.Grammar.{IsLost, first_lines}
 use Rattle.listing_text.specs.Lines.{read_lines}
@@ -13,7 +13,7 @@ use Rattle.listing_text.specs.Texts.{is_listing}
 use Rattle.listing_text.proofs.ListingReads.{listing_judges}
 use Rattle.fast_main.specs.declared.status.Status.{Status}
 use Rattle.fast_main.specs.declared.status.Status.TheVariants.{ListingSyntax}
-use Rattle.fast_main.specs.Outcome.{action_limit, IsUnsound, IsTranslated, IsRefused, IsAnswer, IsOutcomeOfListing}
+use Rattle.fast_main.specs.Outcome.{IsUnsound, IsTranslated, IsRefused, IsAnswer, IsOutcomeOfListing}
 use Rattle.fast_main.specs.Outcome.{IsOutcome}
 use Rattle.fast_main.specs.Status.{status_of_check}
 use Rattle.fast_main.specs.Translation.{fast_text}

@@ -8,7 +8,7 @@ use Rattle.grammar.specs.Grammar.{IsLost}
 use Rattle.listing_text.specs.Texts.{is_listing}
 use Rattle.code_check.specs.declared.CheckFault.{CheckFault}
 use Rattle.code_check.specs.declared.CheckFault.TheVariants as faults
-use Rattle.code_check.specs.Refusals.{PassesCheck, IsCause}
+use Rattle.code_check.specs.Refusals.{PassesCheck, IsCause, action_limit}
 use Rattle.word_code.specs.declared.choose.WordSize.{WordSize}
 use Rattle.word_code.specs.Choice.{allows}
 use Rattle.io_edge.specs.Faults.{Rose}
@@ -21,10 +21,6 @@ use Rattle.fast_main.specs.Translation.{fast_text, AreSoundWords}
 use Rattle.fast_main.specs.Words.{bits_of}
 use Rattle.fast_main.specs.FastWords.Asked.{Asked, asked}
 use Rattle.data_stream.specs.InputRest.Part.{first_part, HasPartEnded, IsInPart}
-
--- how many actions a program has at most
-abbrev pub action_limit : ℕ
-action_limit = 100000000
 
 -- the bytes are the listing of no program, and lost in a line
 pub record IsUnread (bytes : List ℕ) (status : Status) : Type 0 where

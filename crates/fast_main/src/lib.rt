@@ -1,8 +1,18 @@
 //! Fast C from a listing: a listing on an input to a C text on an output, a note and a status.
 #![tactic(auto)]
 
-ghost use Rattle.std.specs.Prelude.{◌≡◌, ℕ, List, Some};
+ghost use Rattle.std.specs.Prelude.{◌≡◌, ◌≤◌, ℕ, List, length, Some, true};
 ghost use Rattle.std.specs.declared.option.Option.{Option};
+ghost use Rattle.icode.specs.Limits.{IsWithinLimits};
+ghost use Rattle.icode.specs.Plain.{PlainProgram};
+ghost use Rattle.listing_text.specs.Texts.{is_listing};
+ghost use Rattle.code_check.specs.Refusals.{PassesCheck, action_limit};
+ghost use Rattle.data_stream.specs.InputRest.Part.{first_part};
+ghost use Rattle.word_code.specs.declared.choose.WordSize.{WordSize as SpecWordSize};
+ghost use Rattle.word_code.specs.Choice.{allows};
+ghost use Rattle.fast_main.specs.FastWords.Asked.{Asked, IsLaneCount, asked};
+ghost use Rattle.fast_main.specs.Status.{listing_limit};
+ghost use Rattle.fast_main.specs.Translation.{AreSoundWords, fast_text};
 ghost use Rattle.fast_main.specs.declared.status.Status.{Status as SpecStatus};
 ghost use Rattle.fast_main.specs.Outcome.{Accounts, AccountsFor, IsOutcome};
 
@@ -31,4 +41,28 @@ pub fn told_inputs_are_accounted_for()
     ensures { (words : List (List ℕ)) (bytes : List ℕ) (left before after : Option (List ℕ))
         (status : SpecStatus) → AccountsFor words (Some bytes) left before after status
         → (rest : List ℕ) × (left ≡ Some rest) × Accounts words bytes rest before after status }
+{}
+
+/// Each call has an outcome.
+pub fn calls_have_an_outcome()
+    ensures { (words : List (List ℕ)) (bytes : List ℕ)
+        → (status : SpecStatus) × (text : List ℕ) × IsOutcome words bytes status text }
+{}
+
+/// The words of each program that passes the check, of a size that takes its modulus and on lanes that can be asked for,
+/// fit, share no line between processors, and leave what the program leaves.
+pub fn words_are_sound()
+    ensures { (size : SpecWordSize) (lanes : ℕ) (program : PlainProgram) → IsLaneCount lanes
+        → IsWithinLimits program → PassesCheck action_limit program → allows size program.modulus ≡ true
+        → AreSoundWords size lanes program }
+{}
+
+/// Where the words ask for a text, and the listing is that of a program that passes the check and whose modulus they
+/// take, the outcome is success with this text.
+pub fn right_calls_succeed()
+    ensures { (words : List (List ℕ)) (bytes : List ℕ) (wanted : Asked) (program : PlainProgram)
+        → asked words ≡ Some wanted → length (first_part bytes) ≤ listing_limit
+        → is_listing (first_part bytes) program → PassesCheck action_limit program
+        → allows wanted.size program.modulus ≡ true
+        → IsOutcome words bytes Status.Success (fast_text wanted program) }
 {}

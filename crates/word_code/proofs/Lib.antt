@@ -1,6 +1,7 @@
 pub mod WordPrint
 pub mod InPlace
 pub mod Arithmetic
+pub mod Allowed
 pub mod Residues
 pub mod Bounds
 pub mod Quick

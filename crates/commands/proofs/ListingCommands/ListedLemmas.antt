@@ -14,7 +14,7 @@ use Rattle.icode.specs.declared.program.Program.{Program}
 use Rattle.icode.proofs.Lists.{code_is}
 use Rattle.icode.proofs.Runs.{memory_of_runs}
 use Rattle.listing_text.specs.Texts.{is_listing}
-use Rattle.code_check.specs.Refusals.{PassesCheck}
+use Rattle.code_check.specs.Refusals.{PassesCheck, action_limit}
 use Rattle.io_edge.specs.Feed.{limit}
 use Rattle.data_stream.specs.declared.input_rest.RestFault.{RestFault}
 use Rattle.data_stream.specs.declared.input_rest.RestFault.TheVariants as rest_fault
@@ -30,7 +30,7 @@ use Rattle.spiral_words.specs.declared.spiral_status.status.Status.{Status}
 use Rattle.spiral_words.specs.declared.spiral_status.status.Status.TheVariants.{Turn, ReadFault, TooLong}
 use Rattle.runs.specs.Stream.{texts, lines, vectors_of}
 use Rattle.runs.specs.Texts.{run_text}
-use Rattle.commands.specs.ListingCommands.Listed.{action_limit, loaded, result_of}
+use Rattle.commands.specs.ListingCommands.Listed.{loaded, result_of}
 use Rattle.commands.specs.Prepared.{stream_work}
 use Rattle.commands.specs.Equations.Exec.{exec_outcomes, exec_work}
 use Rattle.commands.specs.Equations.Front.{HasEnded, part}

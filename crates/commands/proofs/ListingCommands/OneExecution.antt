@@ -15,7 +15,8 @@ use Rattle.request_text.specs.Schedule.{Plan}
 use Rattle.spiral_words.specs.declared.spiral_status.status.Status.TheVariants.{ListingSyntax}
 use Rattle.commands.specs.SpiralInput.Commands.{stranger, admitted}
 use Rattle.spiral_words.specs.SpiralStatus.Fault.{status_of_check}
-use Rattle.commands.specs.ListingCommands.Listed.{action_limit, listed, verified, loaded}
+use Rattle.code_check.specs.Refusals.{action_limit}
+use Rattle.commands.specs.ListingCommands.Listed.{listed, verified, loaded}
 use Rattle.commands.proofs.SpiralInput.Stages.{IsDecided, done, ended, given_decided, bind_decided}
 
 -- A text is lost in one line

@@ -8,7 +8,7 @@ use Rattle.grammar.specs.Grammar.{IsLost}
 use Rattle.listing_text.specs.Texts.{is_listing}
 use Rattle.code_check.specs.declared.fault.CheckFault.{CheckFault}
 use Rattle.code_check.specs.declared.fault.CheckFault.TheVariants as check
-use Rattle.code_check.specs.Refusals.{PassesCheck, IsCause}
+use Rattle.code_check.specs.Refusals.{PassesCheck, IsCause, action_limit}
 use Rattle.data_stream.specs.InputRest.Part.{GivesPart}
 use Rattle.data_stream.specs.declared.input_rest.RestFault.{RestFault}
 use Rattle.request_text.specs.Schedule.{Plan as Turns}
@@ -17,10 +17,6 @@ use Rattle.spiral_words.specs.declared.spiral_status.status.Status.TheVariants.{
 use Rattle.spiral_words.specs.SpiralStatus.Fault.{status_of_check, status_of_part}
 use Rattle.commands.specs.SpiralInput.Commands.{stranger, admitted}
 use Rattle.commands.specs.SpiralInput.Stage.{Stage, given, ◌>>=◌}
-
--- how many actions its program has at most
-abbrev pub action_limit : ℕ
-action_limit = 100000000
 
 -- the program whose listing the text is
 abbrev pub listed : List ℕ → Stage PlainProgram

@@ -1,10 +1,14 @@
 // Programs on words in place.
 
-ghost use Rattle.std.specs.Prelude.{◌≡◌, IfOk};
+ghost use Rattle.std.specs.Prelude.{◌≡◌, ℕ, IfOk};
+ghost use Rattle.icode.specs.Machine.{IsApart};
 ghost use Rattle.icode.specs.Plain.{plain_stmt, plain_body};
-ghost use Rattle.icode.specs.Program.{plain_program, Fits};
+ghost use Rattle.icode.specs.Program.{plain_program, code_of, Fits};
+ghost use Rattle.word_code.specs.Bare.{WordsFit};
 ghost use Rattle.word_code.specs.Quicken.{Laziness, quickened};
 ghost use Rattle.word_code.specs.View.{plain_word_program};
+ghost use Rattle.word_code.specs.WordMachine.{under};
+ghost use Rattle.word_code.specs.WordProgram.{word_code};
 ghost use Rattle.word_code.specs.InPlace.InPlace.{is_full, are_full, is_loop, are_loops};
 ghost use Rattle.word_code.specs.InPlace.InPlace.{routes_of, in_place};
 ghost use Rattle.word_code.specs.InPlace.Laws.{LeavesAlike};
@@ -83,7 +87,8 @@ fn routes_of(alloc: Global, program: &Program) -> Result<Vec<Route>, NoMemory>
 }
 
 /// The words of a program, in place: its statements share arrays where each load still finds its
-/// words. They leave what they left, for every vector and every order of turns.
+/// words. They leave what they left, for every vector and every order of turns; they fit where they
+/// did, and no processor touches a line that another writes.
 pub fn work_in_place(
     alloc: Global,
     program: &Program,
@@ -95,6 +100,12 @@ pub fn work_in_place(
     ensures same { IfOk result (λ made. (z : Laziness)
         → plain_word_program words ≡ quickened z (plain_program program.now)
         → LeavesAlike (plain_word_program made) (plain_word_program words)) }
+    ensures fits { IfOk result
+        (λ made. WordsFit (plain_word_program words) → WordsFit (plain_word_program made)) }
+    ensures apart { IfOk result (λ made. (z : Laziness)
+        → plain_word_program words ≡ quickened z (plain_program program.now)
+        → ((phase : ℕ) → IsApart (code_of program.now) phase)
+        → (phase : ℕ) → IsApart (under (word_code (plain_word_program made))) phase) }
 {
     let routes = routes_of(alloc, program)?;
     let made = reroute(&routes, words);

@@ -7,7 +7,8 @@ use Rattle.word_code.specs.WordPrint.TextForm.{text_form}
 use Rattle.word_code.specs.WordPrint.WordText.{words_text}
 use Rattle.word_code.specs.WordPrint.WordNests.{are_word_phases_within}
 use Rattle.word_code.proofs.WordPrint.Nests.{quickened_nests}
-use Rattle.fast_main.proofs.Faithful.{fits_from, allowed_from, words_from, sound_from}
+use Rattle.code_check.proofs.Phases.{limits_of}
+use Rattle.fast_main.proofs.Faithful.{fits_from, allowed_from, words_from, sound_words}
 use Rattle.fast_main.proofs.Rerouted.{in_place_nests}
 use Rattle.fast_main.proofs.run.fast_text_of.Goals as goal
 
@@ -32,9 +33,8 @@ returns-clause-text c =
 
 pub returns-clause-sound : goal.returns-clause-sound
 returns-clause-sound c =
-    sound_from c.args.options.size c.args.options.lanes c.args.program c.in_ok-program.program c.requires.lanes c.in_ok-program.ensures c.requires.fits c.requires.apart
-    c.in_ok-words.words c.in_ok-words-2.words c.in_ok-words.ensures.made c.in_ok-words-2.ensures.made
-    c.in_ok-words.ensures.fits c.in_ok-words.ensures.same c.in_ok-words-2.ensures.same
+    sound_words c.args.options.size c.args.options.lanes (plain_program c.args.program) c.requires.lanes
+    (limits_of c.args.program) c.requires.fits c.requires.apart c.requires.allowed
 
 pub make_fast-requires : goal.make_fast-requires
 make_fast-requires c =
