@@ -1,7 +1,7 @@
 -- Each call has an outcome, and a listing that passes has its text.
-use Rattle.std.proofs.Common.{◌≡◌, ℕ, ◌+◌, ◌<◌, ◌≤◌, Bool, true, false, List, [], Option, Some, None, Ok, Err, Result}
-use Rattle.std.proofs.Common.{length, inl, inr, refl, sym, ap, ◌∙◌, ⊎_elim}
-use Rattle.std.specs.Prelude.{if◌then◌else◌}
+use Rattle.std.proofs.Common.{◌≡◌, ℕ, ◌+◌, ◌≤◌, Bool, true, false, List, [], Option, Some, None, Ok, Err, Result}
+use Rattle.std.proofs.Common.{length, inl, inr, refl, ap, ⊎_elim}
+use Rattle.std.specs.Prelude.{codes, if◌then◌else◌}
 use Rattle.std.specs.Str.{bytes_eq}
 use Rattle.std.specs.Option.{option_map_or}
 use Rattle.std.proofs.lemmas.Bool.{cases_lt}
@@ -64,7 +64,8 @@ lanes-asked words wanted = by_fault (is_empty (fault_of fast_app words))
         ≡ Some wanted → IsLaneCount wanted.lanes
     by_fault true e =
         let rows = matches_of fast_app words in
-        lanes-given _ wanted.lanes (lanes-together (size_in rows) (lanes_in rows) (form_in rows) wanted e)
+        lanes-given (first_of (codes "lanes") rows) wanted.lanes
+        (lanes-together (size_in rows) (lanes_in rows) (form_in rows) wanted e)
     by_fault false e = absurd (cc)
 
 -- ---- programs

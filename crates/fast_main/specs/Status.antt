@@ -11,7 +11,7 @@ use Rattle.listing_text.specs.declared.listing.ListingFault.TheVariants as listi
 use Rattle.io_edge.specs.StatusRows.Rows.{line_of}
 use Rattle.fast_main.specs.declared.status.Status.{Status}
 use Rattle.fast_main.specs.declared.status.Status.TheVariants.{Success, Usage, ListingSyntax, OverSteps, Address}
-use Rattle.fast_main.specs.declared.status.Status.TheVariants.{Register, LineShared, ReadFault, WriteFault, NoMemory}
+use Rattle.fast_main.specs.declared.status.Status.TheVariants.{Register, LineShared, ReadFault, NoMemory}
 use Rattle.fast_main.specs.declared.status.Status.TheVariants.{TooLong}
 use Rattle.fast_main.specs.Rows.{row_of}
 

@@ -1,4 +1,4 @@
-use Rattle.std.proofs.Common.{Err, Global, ap, map, string_bytes}
+use Rattle.std.proofs.Common.{Err, ap}
 use Rattle.std.proofs.lemmas.Result.{err_from_is_err_and}
 use Rattle.io_edge.specs.Told.{IsOver}
 use Rattle.io_edge.specs.Feed.{to_come}
