@@ -48,15 +48,10 @@ fn renumber_op(at: u64, turned: &[u64], op: &mut Op)
     ensures { plain_op op.new ≡ renumbered_op (renumbered at turned.now) (plain_op op.old) }
 {
     match op {
-        Op::Load { register, .. } | Op::Store { register, .. } | Op::Zero { register } => {
-            *register = renumbered(at, turned, *register);
-        }
+        Op::Load { register, .. } => *register = renumbered(at, turned, *register),
+        Op::Store { register, .. } => *register = renumbered(at, turned, *register),
+        Op::Zero { register } => *register = renumbered(at, turned, *register),
         Op::Add {
-            register,
-            left,
-            right,
-        }
-        | Op::Sub {
             register,
             left,
             right,
@@ -65,18 +60,36 @@ fn renumber_op(at: u64, turned: &[u64], op: &mut Op)
             *left = renumbered(at, turned, *left);
             *right = renumbered(at, turned, *right);
         }
-        Op::Neg { register, source }
-        | Op::MulConst {
+        Op::Sub {
+            register,
+            left,
+            right,
+        } => {
+            *register = renumbered(at, turned, *register);
+            *left = renumbered(at, turned, *left);
+            *right = renumbered(at, turned, *right);
+        }
+        Op::Neg { register, source } => {
+            *register = renumbered(at, turned, *register);
+            *source = renumbered(at, turned, *source);
+        }
+        Op::MulConst {
             register,
             source,
             ..
+        } => {
+            *register = renumbered(at, turned, *register);
+            *source = renumbered(at, turned, *source);
         }
-        | Op::MulTable {
+        Op::MulTable {
             register,
             source,
             ..
+        } => {
+            *register = renumbered(at, turned, *register);
+            *source = renumbered(at, turned, *source);
         }
-        | Op::Tile { register, source } => {
+        Op::Tile { register, source } => {
             *register = renumbered(at, turned, *register);
             *source = renumbered(at, turned, *source);
         }
