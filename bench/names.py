@@ -1,8 +1,9 @@
 #!/usr/bin/env python3
-"""Checks docs/PROVED.md: each crate that it names is there, and each name of code stands in crates/.
+"""Checks the names of code in the pages of docs/ against crates/.
 
-A name of code is a word in backticks made of letters, digits, underscores and `::`. In a line that begins with crates in bold it has
-to stand in one of these; elsewhere in any crate.
+A name of code is a word in backticks made of letters, digits, underscores and `::`; it has to stand in crates/. On docs/PROVED.md it
+has to stand in src/ or specs/, and in a line that begins with crates in bold in one of these crates. Each such crate has to be there.
+A path in backticks has to lead to a file or folder of the repository, of a crate, or of a crate's src/; the ending may be left out.
 """
 
 import pathlib
@@ -10,16 +11,19 @@ import re
 import sys
 
 TOP = pathlib.Path(__file__).resolve().parent.parent
-PAGE = TOP / "docs" / "PROVED.md"
 NAME = re.compile(r"`([A-Za-z_][A-Za-z0-9_]*(?:::[A-Za-z0-9_]+)*)`")
+PATH = re.compile(r"`([a-z_0-9]+(?:/[A-Za-z0-9_+.-]+)+)`")
 CRATE = re.compile(r"\*\*([a-z0-9_]+)\*\*")
 COMMANDS = {"apply", "c", "cert", "check", "code", "compile", "convolve", "exec", "formula", "plan", "run", "sample", "trace", "main"}
+# The page of what is proved, pages that speak of proofs too, and what these say of code that is not there.
+PROVED, OTHERS = "PROVED.md", ("ARCHITECTURE.md", "DECISIONS.md", "DEFINITIONS.md", "EXTENDING.md", "PROVING.md")
+EXAMPLES = {"src/name.rt", "Met"}
 
 
-def words_of(crate):
-    """All words of a crate's source and definitions."""
-    files = [path for part in ("src", "specs") for path in (TOP / "crates" / crate / part).rglob("*") if path.suffix in (".rt", ".antt")]
-    return {word for path in files for word in re.findall(r"[A-Za-z_][A-Za-z0-9_]*", path.read_text())}
+def words_of(crate, parts):
+    """All words of these parts of a crate, and the names of their files."""
+    files = [path for part in parts for path in (TOP / "crates" / crate / part).rglob("*") if path.suffix in (".rt", ".antt")]
+    return {word for path in files for word in [path.stem, *re.findall(r"[A-Za-z_][A-Za-z0-9_]*", path.read_text())]}
 
 
 def entries(text):
@@ -27,22 +31,43 @@ def entries(text):
     return [" ".join(entry.split()) for entry in re.split(r"\n(?=- |\n)", text)]
 
 
-def main():
-    crates = sorted(path.name for path in (TOP / "crates").iterdir() if (path / "src").is_dir())
-    words = {crate: words_of(crate) for crate in crates}
-    wrong = []
-    for entry in entries(PAGE.read_text()):
+def faults_of_proved(crates):
+    """What the page of what is proved names that is not there."""
+    words = {crate: words_of(crate, ("src", "specs")) for crate in crates}
+    for entry in entries((TOP / "docs" / PROVED).read_text()):
         named = CRATE.findall(entry)
-        wrong += [f"no crate {crate}" for crate in named if crate not in words]
+        yield from (f"no crate {crate}" for crate in named if crate not in words)
         places = [crate for crate in named if crate in words] or crates
         for name in NAME.findall(entry):
             parts = set(name.split("::"))
             if name not in COMMANDS and not any(parts <= words[crate] for crate in places):
-                wrong.append(f"{name} is not in {', '.join(places) if named else 'crates/'}")
-    for line in wrong:
-        print(f"names: docs/PROVED.md: {line}", file=sys.stderr)
+                yield f"{name} is not in {', '.join(places) if named else 'crates/'}"
+
+
+def faults_of(page, words):
+    """What another page names that is not there."""
+    text = (TOP / "docs" / page).read_text()
+    for name in NAME.findall(text):
+        if name not in COMMANDS | EXAMPLES and not set(name.split("::")) <= words:
+            yield f"{name} is not in crates/"
+    for path in PATH.findall(text):
+        if path not in EXAMPLES and not any(leads(start, path) for start in (".", "crates", "crates/*", "crates/*/src")):
+            yield f"there is no {path}"
+
+
+def leads(start, path):
+    return any(next(TOP.glob(f"{start}/{path}{ending}"), None) for ending in ("", ".antt", ".rt"))
+
+
+def main():
+    crates = sorted(path.name for path in (TOP / "crates").iterdir() if (path / "src").is_dir())
+    words = set(crates).union(*(words_of(crate, ("src", "specs", "proofs")) for crate in crates))
+    wrong = [(PROVED, fault) for fault in faults_of_proved(crates)]
+    wrong += [(page, fault) for page in OTHERS for fault in faults_of(page, words)]
+    for page, fault in wrong:
+        print(f"names: docs/{page}: {fault}", file=sys.stderr)
     if not wrong:
-        print("names: each name of docs/PROVED.md is there")
+        print("names: each name of code in the pages of docs/ is there")
     return 1 if wrong else 0
 
 
