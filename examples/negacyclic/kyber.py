@@ -63,7 +63,7 @@ def inverse_layer(length):
 
 
 def product(formulas):
-    """The formulas one behind the other, the first applied first."""
+    """The formulas one after the other, the first applied first."""
     whole = formulas[0]
     for formula in formulas[1:]:
         whole = f"TIMES({formula},{whole})"

@@ -27,7 +27,7 @@ def digits(number, count):
 
 
 def convolved(line, *lists):
-    """What the program makes of the lists behind the first."""
+    """What the program makes of the lists after the first."""
     text = "\n".join([line, *(" ".join(map(str, values)) for values in lists)])
     done = subprocess.run([SPIRAL, "convolve"], input=text, capture_output=True, text=True, check=True)
     return [list(map(int, answer.split())) for answer in done.stdout.splitlines()]

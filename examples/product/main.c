@@ -78,7 +78,7 @@ static void write_number(const uint64_t *limbs, size_t count) {
 static int bad_line(enum reading found, size_t line) {
     switch (found) {
     case END:
-        return failed("line %zu has no second factor behind it", line - 1);
+        return failed("line %zu has no second factor after it", line - 1);
     case NO_NUMBER:
         return failed("line %zu is not of hexadecimal digits alone", line);
     case NO_MEMORY:
