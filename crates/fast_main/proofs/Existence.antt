@@ -24,7 +24,8 @@ use Rattle.word_code.specs.Choice.{allows}
 use Rattle.word_code.specs.WordPrint.TextForm.{TextForm}
 use Rattle.fast_main.specs.declared.status.Status.{Status}
 use Rattle.fast_main.specs.declared.status.Status.TheVariants.{ListingSyntax, Success, TooLong, Usage, WideModulus}
-use Rattle.fast_main.specs.FastWords.Asked.{Asked, IsLaneCount, asked, form_in, lanes_in, lanes_named, size_in, together}
+use Rattle.fast_main.specs.FastWords.Asked.{Asked, IsLaneCount, asked, form_in, lanes_in, lanes_named, size_in}
+use Rattle.fast_main.specs.FastWords.Asked.{together}
 use Rattle.fast_main.specs.FastWords.CommandLine.{fast_app}
 use Rattle.fast_main.specs.Outcome.{IsAnswer, IsOutcome, IsOutcomeOfListing, IsTranslated}
 use Rattle.fast_main.specs.Status.{listing_limit, status_of_check}
@@ -60,7 +61,9 @@ lanes-asked : (words : List Text) (wanted : Asked) → asked words ≡ Some want
 lanes-asked words wanted = by_fault (is_empty (fault_of fast_app words))
   where
     by_fault : (b : Bool) →
-        (if b then (let rows = matches_of fast_app words in together (size_in rows) (lanes_in rows) (form_in rows)) else None)
+        (if b
+        then (let rows = matches_of fast_app words in together (size_in rows) (lanes_in rows) (form_in rows))
+        else None)
         ≡ Some wanted → IsLaneCount wanted.lanes
     by_fault true e =
         let rows = matches_of fast_app words in
@@ -108,7 +111,17 @@ module _ (wanted : Asked) (count : IsLaneCount wanted.lanes) (bytes : List ℕ) 
     | inr (fault, told, cause) ↦ (
       status_of_check fault,
       [],
-      inl (inr (inl (record { program = p; fault = fault; listing = listing; told = told; cause = cause; says = refl })), refl),
+      inl (
+        inr (inl (record {
+          program = p;
+          fault = fault;
+          listing = listing;
+          told = told;
+          cause = cause;
+          says = refl;
+        })),
+        refl,
+      ),
     )
   ]
 
@@ -141,4 +154,5 @@ pub right_outcome : (words : List Text) (bytes : List ℕ) (wanted : Asked) (p :
     PassesCheck action_limit p → allows wanted.size p.modulus ≡ true →
     IsOutcome words bytes Success (fast_text wanted p)
 right_outcome words bytes wanted p e short listing passes allowed =
-    inr (wanted, e, inr (short, inr (refl, translated wanted (lanes-asked words wanted e) (first_part bytes) p listing passes allowed)))
+    let count = lanes-asked words wanted e in
+    inr (wanted, e, inr (short, inr (refl, translated wanted count (first_part bytes) p listing passes allowed)))

@@ -1,6 +1,6 @@
 -- The words of a program that passes the check are sound.
-use Rattle.std.proofs.Common.{◌≡◌, ℕ, zero, suc, ◌+◌, ◌==◌, ◌&&◌, All, List, [], length, map, ◌<◌, ◌≤◌, Bool, true, false}
-use Rattle.std.proofs.Common.{inl, inr, refl, sym, ap, subst, ◌∙◌, arith}
+use Rattle.std.proofs.Common.{◌≡◌, ℕ, zero, suc, ◌+◌, ◌==◌, ◌&&◌, All, List, [], length, map, ◌<◌, ◌≤◌, Bool, true}
+use Rattle.std.proofs.Common.{false, inl, inr, refl, sym, ap, subst, ◌∙◌, arith}
 use Rattle.std.specs.Prelude.{if◌then◌else◌, slice_index_or}
 use Rattle.std.specs.List.{list_all}
 use Rattle.icode.specs.Actions.{PlainFits, plain_code}
@@ -169,7 +169,8 @@ module _ (lanes : ℕ) (p there : Program) (count : IsLaneCount lanes)
 
   pub blocks_apart : (phase : ℕ) → IsApart (code_of there) phase
   blocks_apart phase =
-      subst (λ z. IsApart (plain_code z) phase) (sym is) (((in_blocks_is lanes (plain_program p) count).law fits apart).apart phase)
+      let law = (in_blocks_is lanes (plain_program p) count).law fits apart in
+      subst (λ z. IsApart (plain_code z) phase) (sym is) (law.apart phase)
 
 -- ---- its words
 

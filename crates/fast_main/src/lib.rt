@@ -49,8 +49,8 @@ pub fn calls_have_an_outcome()
         → (status : SpecStatus) × (text : List ℕ) × IsOutcome words bytes status text }
 {}
 
-/// The words of each program that passes the check, of a size that takes its modulus and on lanes that can be asked for,
-/// fit, share no line between processors, and leave what the program leaves.
+/// The words of each program that passes the check, of a size that takes its modulus and on lanes that can be asked
+/// for, fit, share no line between processors, and leave what the program leaves.
 pub fn words_are_sound()
     ensures { (size : SpecWordSize) (lanes : ℕ) (program : PlainProgram) → IsLaneCount lanes
         → IsWithinLimits program → PassesCheck action_limit program → allows size program.modulus ≡ true

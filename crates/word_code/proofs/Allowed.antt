@@ -48,8 +48,8 @@ wide_within true m some small =
     within (record { half = 4294967296; rough = true }) 18446744073709551615 m (omega arith) (omega arith) (omega arith)
     (omega arith) (omega (arith, some)) (omega (arith, small))
 wide_within false m some small =
-    within (record { half = 4294967296; rough = false }) 18446744073709551615 m (omega arith) (omega arith) (omega arith)
-    (omega arith) (omega (arith, some)) (omega (arith, small))
+    within (record { half = 4294967296; rough = false }) 18446744073709551615 m (omega arith) (omega arith)
+    (omega arith) (omega arith) (omega (arith, some)) (omega (arith, small))
 
 pub lazy_for : (size : WordSize) (m lanes : ℕ) → 2 ≤ m → m < 2 ^ 62 → allows size m ≡ true →
     IsLazyWithin (laziness_for size m lanes) m

@@ -20,12 +20,16 @@ returns-clause-same c z quick =
 
 pub returns-clause-fits : goal.returns-clause-fits
 returns-clause-fits c fit =
-    let is = c.reroute-made.ensures ∙ ap (λ routes. rerouted routes (plain_word_program c.args.words)) (c.deref.ensures.value ∙ c.in_ok-routes.ensures) in
+    let is =
+    c.reroute-made.ensures
+    ∙ ap (λ routes. rerouted routes (plain_word_program c.args.words)) (c.deref.ensures.value ∙ c.in_ok-routes.ensures) in
     subst WordsFit (sym is) (in_place_fits (plain_program c.args.program.now) (plain_word_program c.args.words) fit)
 
 pub returns-clause-apart : goal.returns-clause-apart
 returns-clause-apart c z quick apart phase =
-    let is = c.reroute-made.ensures ∙ ap (λ routes. rerouted routes (plain_word_program c.args.words)) (c.deref.ensures.value ∙ c.in_ok-routes.ensures) in
+    let is =
+    c.reroute-made.ensures
+    ∙ ap (λ routes. rerouted routes (plain_word_program c.args.words)) (c.deref.ensures.value ∙ c.in_ok-routes.ensures) in
     let p = plain_program c.args.program.now in
     subst (λ (w : PlainWordProgram). IsApart (under (word_code w)) phase) (sym (is ∙ ap (in_place p) quick))
     (in_place_apart z p apart phase)
