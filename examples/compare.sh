@@ -1,18 +1,32 @@
 #!/usr/bin/env bash
 # Compiles the C text and the fast C text of each request of the tables with each compiler that is there, and compares
-# what they make of some vectors with what `spiral run` writes. The table of fast texts has its own requests, for moduli
-# and lanes at the limits of words, and there each is also written as two functions to link, which run at once. Some also
-# with ThreadSanitizer, and with AddressSanitizer and UBSan.
+# what they make of some vectors with what `spiral run` writes, request beside request. The table of fast texts has its
+# own requests, for moduli and lanes at the limits of words, and there each is also written as two functions to link,
+# which run at once. Some also with ThreadSanitizer, and with AddressSanitizer and UBSan.
 set -euo pipefail
 top=$(cd "$(dirname "$0")/.." && pwd)
 program="$top/crates/spiral/out/spiral"
 fast="$top/crates/spiral_fast/out/spiral_fast"
 [ -x "$program" ] || "$top/bin/build"
 [ -x "$fast" ] || "$top/bin/build" spiral_fast
-work=$(mktemp -d)
-trap 'rm -rf "$work"' EXIT
-passed=0
-failed=0
+all=$(mktemp -d)
+trap 'rm -rf "$all"' EXIT
+
+# begin FUNCTION WORD ..: calls it with a folder of its own, $work, beside as many others as there are processors
+begin() {
+  while [ "$(jobs -rp | wc -l)" -ge "$(nproc)" ]; do
+    wait -n || true
+  done
+  count=$((${count:-0} + 1))
+  (
+    work=$(printf '%s/%03d' "$all" "$count")
+    passed=0
+    failed=0
+    mkdir "$work"
+    "$@" >"$work/said" 2>&1
+    echo "$passed $failed" >"$work/count"
+  ) &
+}
 
 # vectors SIZE COUNT: numbers below 2^64, the same at each run
 vectors() {
@@ -95,25 +109,30 @@ functions() {
   "$fast" --header "$@" --name second <"$work/listing" >"$work/second.h"
 }
 
-while read -r request; do
-  [ -n "$request" ] || continue
-  last=$request
-  vectors "$(size_of "$request")" 5 >"$work/data"
-  prepared "$request"
-  echo "$request" | "$program" c >"$work/text.c"
-  compared "$request" gcc -O2
-  compared "$request" clang -O2
-  fast_text "$request"
-  compared "fast text of $request" gcc -O2
-  compared "fast text of $request" clang -O2
-done <"$top/examples/requests"
+# by_request REQUEST: the C text and the fast C text of it
+by_request() {
+  vectors "$(size_of "$1")" 5 >"$work/data"
+  prepared "$1"
+  echo "$1" | "$program" c >"$work/text.c"
+  compared "$1" gcc -O2
+  compared "$1" clang -O2
+  fast_text "$1"
+  compared "fast text of $1" gcc -O2
+  compared "fast text of $1" clang -O2
+}
 
-echo "$last" | "$program" c >"$work/text.c"
-compared "$last" gcc -O1 -g -fsanitize=thread
-compared "$last" gcc -O1 -g -fsanitize=address,undefined
+# sanitized REQUEST: the C text of it with sanitizers
+sanitized() {
+  vectors "$(size_of "$1")" 5 >"$work/data"
+  prepared "$1"
+  echo "$1" | "$program" c >"$work/text.c"
+  compared "$1" gcc -O1 -g -fsanitize=thread
+  compared "$1" gcc -O1 -g -fsanitize=address,undefined
+}
 
-while read -r request; do
-  [ -n "$request" ] || continue
+# by_fast_request REQUEST: fast texts of it, with arrays and as functions to link
+by_fast_request() {
+  local request=$1 size modulus wide=64
   size=$(size_of "$request")
   modulus=$(echo "$request" | cut -d' ' -f4)
   { extremes "$size" "$modulus" && vectors "$size" 2; } >"$work/data"
@@ -126,7 +145,6 @@ while read -r request; do
   elif [[ $request == *procs* ]]; then
     compared "fast text of $request" gcc -O1 -g -fsanitize=thread
   fi
-  wide=64
   [ "$modulus" -ge $((1 << 51)) ] || wide=52
   functions "$request" --words "$wide"
   linked "functions of $request" gcc -O2
@@ -137,45 +155,81 @@ while read -r request; do
   elif [[ $request == *procs* ]]; then
     linked "functions of $request" gcc -O1 -g -fsanitize=thread
   fi
-  # lanes from loops, where the listing is of one lane
-  if [[ $request != *lanes* ]]; then
-    for lanes in 2 4 8 16; do
-      fast_text "$request" --lanes "$lanes"
-      compared "$lanes lanes from loops of $request" clang -O3 -march=native
-    done
-    compared "16 lanes from loops of $request" gcc -O2
-    if [ "$size" -le 256 ]; then
-      compared "16 lanes from loops of $request" gcc -O1 -g -fsanitize=address,undefined
-    elif [[ $request == *procs* ]]; then
-      compared "16 lanes from loops of $request" gcc -O1 -g -fsanitize=thread
-    fi
+}
+
+# on_lanes REQUEST: fast texts with lanes from loops, where the listing is of one lane
+on_lanes() {
+  local request=$1 size
+  size=$(size_of "$request")
+  { extremes "$size" "$(echo "$request" | cut -d' ' -f4)" && vectors "$size" 2; } >"$work/data"
+  prepared "$request"
+  for lanes in 2 4 8 16; do
+    fast_text "$request" --lanes "$lanes"
+    compared "$lanes lanes from loops of $request" clang -O3 -march=native
+  done
+  compared "16 lanes from loops of $request" gcc -O2
+  if [ "$size" -le 256 ]; then
+    compared "16 lanes from loops of $request" gcc -O1 -g -fsanitize=address,undefined
+  elif [[ $request == *procs* ]]; then
+    compared "16 lanes from loops of $request" gcc -O1 -g -fsanitize=thread
   fi
-  # words of 52 bits, with the operation for their products and without it
-  if [ "$modulus" -lt $((1 << 51)) ]; then
-    fast_text "$request" --words 52
-    compared "52-bit words of $request" gcc -O2
-    compared "52-bit words of $request" clang -O3 -march=native
-    compared "52-bit words of $request" clang -O3 -march=native -mno-avx512ifma
-    if [ "$size" -le 256 ]; then
-      compared "52-bit words of $request" gcc -O1 -g -fsanitize=address,undefined
-    fi
+}
+
+# in_words_of_52 REQUEST: words of 52 bits, with the operation for their products and without it
+in_words_of_52() {
+  local request=$1 size
+  size=$(size_of "$request")
+  { extremes "$size" "$(echo "$request" | cut -d' ' -f4)" && vectors "$size" 2; } >"$work/data"
+  prepared "$request"
+  fast_text "$request" --words 52
+  compared "52-bit words of $request" gcc -O2
+  compared "52-bit words of $request" clang -O3 -march=native
+  compared "52-bit words of $request" clang -O3 -march=native -mno-avx512ifma
+  if [ "$size" -le 256 ]; then
+    compared "52-bit words of $request" gcc -O1 -g -fsanitize=address,undefined
   fi
-done <"$top/examples/fast_requests"
+}
 
 # A listing with a place of constants alone, which numbers of 32 bits do not hold: as `exec` runs it
-cat >"$work/listing" <<'END'
+constant_place() {
+  cat >"$work/listing" <<'END'
 program size 8 mod 17 procs 1 line 1 lanes 1 regs 1
 phase
 ld r0 X[0+(0+(65536)/1*65536)%7*1]
 st Y[0] r0
 end
 END
-vectors 8 5 >"$work/data"
-{ cat "$work/listing" && echo && cat "$work/data"; } | "$program" exec >"$work/wanted"
-"$fast" <"$work/listing" >"$work/text.c"
-compared "fast text of a listing" gcc -O2
-compared "fast text of a listing" clang -O2
-compared "fast text of a listing" gcc -O1 -g -fsanitize=address,undefined
+  vectors 8 5 >"$work/data"
+  { cat "$work/listing" && echo && cat "$work/data"; } | "$program" exec >"$work/wanted"
+  "$fast" <"$work/listing" >"$work/text.c"
+  compared "fast text of a listing" gcc -O2
+  compared "fast text of a listing" clang -O2
+  compared "fast text of a listing" gcc -O1 -g -fsanitize=address,undefined
+}
 
+while read -r request; do
+  [ -n "$request" ] || continue
+  begin by_fast_request "$request"
+  [[ $request == *lanes* ]] || begin on_lanes "$request"
+  [ "$(echo "$request" | cut -d' ' -f4)" -ge $((1 << 51)) ] || begin in_words_of_52 "$request"
+done <"$top/examples/fast_requests"
+while read -r request; do
+  [ -n "$request" ] || continue
+  last=$request
+  begin by_request "$request"
+done <"$top/examples/requests"
+begin sanitized "$last"
+begin constant_place
+wait
+
+passed=0
+failed=0
+for work in "$all"/*; do
+  cat "$work/said"
+  # what ended before it had counted has failed
+  read -r right wrong <"$work/count" || { right=0 wrong=1 && echo "ended early: $work"; }
+  passed=$((passed + right))
+  failed=$((failed + wrong))
+done
 echo "examples: $passed passed, $failed failed"
 [ "$failed" -eq 0 ]

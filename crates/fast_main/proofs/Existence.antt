@@ -149,10 +149,10 @@ some_outcome words bytes = by_words (asked words) refl
         (found.0, found.1, inr (wanted, e, found.2))
 
 -- the words ask for a text, and the listing is that of a program that passes, whose modulus they take
-pub right_outcome : (words : List Text) (bytes : List ℕ) (wanted : Asked) (p : PlainProgram) →
+pub translated_outcome : (words : List Text) (bytes : List ℕ) (wanted : Asked) (p : PlainProgram) →
     asked words ≡ Some wanted → length (first_part bytes) ≤ listing_limit → is_listing (first_part bytes) p →
     PassesCheck action_limit p → allows wanted.size p.modulus ≡ true →
     IsOutcome words bytes Success (fast_text wanted p)
-right_outcome words bytes wanted p e short listing passes allowed =
+translated_outcome words bytes wanted p e short listing passes allowed =
     let count = lanes-asked words wanted e in
     inr (wanted, e, inr (short, inr (refl, translated wanted count (first_part bytes) p listing passes allowed)))

@@ -59,7 +59,7 @@ pub fn words_are_sound()
 
 /// Where the words ask for a text, and the listing is that of a program that passes the check and whose modulus they
 /// take, the outcome is success with this text.
-pub fn right_calls_succeed()
+pub fn good_listings_are_translated()
     ensures { (words : List (List ℕ)) (bytes : List ℕ) (wanted : Asked) (program : PlainProgram)
         → asked words ≡ Some wanted → length (first_part bytes) ≤ listing_limit
         → is_listing (first_part bytes) program → PassesCheck action_limit program
