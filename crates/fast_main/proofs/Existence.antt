@@ -56,7 +56,7 @@ lanes-together (Some size) (Some lanes) (Some form) wanted e =
     ap (λ (w : Asked). Some w.lanes) is
 lanes-together _ _ _ wanted e = absurd (cc)
 
--- lanes that are asked for can be asked for
+-- words that ask for a text ask for one lane, or for 2, 4, 8 or 16
 lanes-asked : (words : List Text) (wanted : Asked) → asked words ≡ Some wanted → IsLaneCount wanted.lanes
 lanes-asked words wanted = by_fault (is_empty (fault_of fast_app words))
   where
