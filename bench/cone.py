@@ -20,8 +20,10 @@ TOP = pathlib.Path(__file__).resolve().parent.parent
 PAGE = TOP / "docs" / "PROVED.md"
 BEGIN = "<!-- the table of commands, written by bench/cone.py -->"
 END = "<!-- the end of the table of commands -->"
-# The laws of spiral_main on each command. `IsOutcome` links them to the program's clause, and is not opened.
+# The laws of spiral_main on the whole program and on each command. `AccountsFor` and `IsOutcome` link them to the program's clause,
+# and are not opened.
 COMMANDS = [
+    ("`code` and `run`", ["the_program_is_right"]),
     ("`plan`", ["plan_answers", "plan_is_right"]),
     ("`formula`", ["formula_answers", "formula_is_right"]),
     ("`code`", ["code_answers", "code_is_good", "code_is_lean", "code_is_right"]),
@@ -36,9 +38,10 @@ COMMANDS = [
     ("`exec`", ["exec_answers", "exec_is_right"]),
     ("`convolve`", ["convolve_answers", "convolve_is_right"]),
     ("`convolve --code`", ["convolver_answers", "convolver_is_good", "convolver_is_right"]),
+    ("all commands, programs by what they do", ["one_generator"]),
     ("all commands at once", ["calls_have_one_status"]),
 ]
-LINK = {"Outcome.IsOutcome"}
+LINK = {"Outcome.IsOutcome", "Outcome.AccountsFor"}
 # A law on good programs is read with that on right calls, which opens the words and the line (`right_lines_are_ordered` links it to
 # the law on answers), and with that on answers, which opens the text of a program.
 CALLS = LINK | {
@@ -179,7 +182,7 @@ def table():
     rows = ["", "| command | law | lines to read |", "| --- | --- | --- |"]
     for command, laws in COMMANDS:
         for law in laws:
-            cut = set() if not command.startswith("`") else CALLS if law.endswith(("_is_good", "_is_lean")) else LINK
+            cut = set() if law == "calls_have_one_status" else CALLS if law.endswith(("_is_good", "_is_lean")) else LINK
             found = counts("spiral_main", [law], cut, definitions, brought)
             rows.append(f"| {command} | `{law}` | {sum(len(definitions[key]) for key in found[law][0]):,} |")
     return "\n".join(rows + ["", ""])

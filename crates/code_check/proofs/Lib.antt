@@ -13,3 +13,5 @@ pub mod Pruning
 pub mod Lives
 pub mod Exact
 pub mod Decided
+pub mod Marks
+mod FreshExamples

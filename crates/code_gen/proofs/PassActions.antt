@@ -5,4 +5,5 @@ pub mod Copies
 pub mod Fillings
 pub mod Counting
 pub mod Every
+pub mod FreshCopies
 pub mod PassesRun

@@ -165,12 +165,15 @@ sampled request code after plan m n seed vector y state sum counts text good in_
     let of_request : m ≡ request.modulus = modulus ∙ ap (λ (k : Code). k.modulus) good.is ∙ good.good.header.modulus in
     let sum_is = s ∙ ap₂ weighted_sum of_request (times ∙ ap (asked_of request) here) in
     let operations_is : weighted request.weight counts ≡ whole_cost request good.tree = costs request code after vector turns state counts good in_range same ran operations muls in
+    let some : 0 < request.procs = omega (arith, (limits request in_range).procs) in
     let loads_is : counts.loads ≡ whole_loads request good.tree =
     loads ∙ total_of_run request code after vector turns state (λ c. c.loads) good same ran
-    ∙ ap (λ n. sum_below n (λ q. (whole_counts (plain_code program) q).loads)) good.good.header.procs ∙ good.lean.loads in
+    ∙ ap (λ n. sum_below n (λ q. (whole_counts (plain_code program) q).loads)) good.good.header.procs
+    ∙ whole-of request.procs (whole_loads request good.tree) (λ q. (whole_counts (plain_code program) q).loads) some good.lean.loads in
     let stores_is : counts.stores ≡ whole_stores request good.tree =
     stores ∙ total_of_run request code after vector turns state (λ c. c.stores) good same ran
-    ∙ ap (λ n. sum_below n (λ q. (whole_counts (plain_code program) q).stores)) good.good.header.procs ∙ good.lean.stores in
+    ∙ ap (λ n. sum_below n (λ q. (whole_counts (plain_code program) q).stores)) good.good.header.procs
+    ∙ whole-of request.procs (whole_stores request good.tree) (λ q. (whole_counts (plain_code program) q).stores) some good.lean.stores in
     let text_is =
     t ∙ ap (λ k. sample_text k (weighted request.weight counts) counts.loads counts.stores) sum_is
     ∙ ap (λ k. sample_text (sum_for (with_tree request good.tree) seed) k counts.loads counts.stores) operations_is

@@ -1,6 +1,6 @@
 -- The words of a program that passes the check are sound.
 use Rattle.std.proofs.Common.{◌≡◌, ℕ, zero, suc, ◌+◌, ◌==◌, ◌&&◌, All, List, [], length, map, ◌<◌, ◌≤◌, Bool, true}
-use Rattle.std.proofs.Common.{false, inl, inr, refl, sym, ap, subst, ◌∙◌, arith}
+use Rattle.std.proofs.Common.{false, inl, inr, refl, sym, ap, subst, ◌∙◌, arith, le_of_eq}
 use Rattle.std.specs.Prelude.{if◌then◌else◌, slice_index_or}
 use Rattle.std.specs.List.{list_all}
 use Rattle.icode.specs.Actions.{PlainFits, plain_code}
@@ -11,7 +11,9 @@ use Rattle.icode.specs.Plain.{PlainBody, PlainProgram}
 use Rattle.icode.specs.Program.{plain_program, code_of, Fits}
 use Rattle.word_code.specs.InPlace.InPlace.{in_place}
 use Rattle.word_code.proofs.Allowed.{lazy_for}
+use Rattle.word_code.proofs.FreshWords.{fresh_words_ignore_leftovers}
 use Rattle.word_code.proofs.InPlace.Fitting.{in_place_fits, in_place_apart}
+use Rattle.word_code.proofs.InPlace.FreshInPlace.{in_place_fresh}
 use Rattle.word_code.proofs.InPlace.Law.{in_place_is_same}
 use Rattle.word_code.proofs.Numbers.{quickened_fits}
 use Rattle.word_code.proofs.Quickened.{quickened_is_same}
@@ -36,7 +38,7 @@ use Rattle.word_code.specs.Laws.{IsLazyWithin}
 use Rattle.word_code.specs.View.{plain_word_program}
 use Rattle.fast_main.specs.FastWords.Asked.{IsLaneCount}
 use Rattle.fast_main.specs.Translation.{has_cheap_products, on_several, on_lanes, in_blocks, prepared, words_for}
-use Rattle.fast_main.specs.Translation.{AreSoundWords}
+use Rattle.fast_main.specs.Translation.{AreSoundWords, IsFaithful}
 use Rattle.fast_main.proofs.Laned.{laned_by}
 
 -- ---- the prepared program
@@ -215,12 +217,18 @@ sound_words size lanes p count limits fits apart allowed =
     (lazy_for size p.modulus q.lanes range.0 range.1 allowed) in
     let some : 0 < q.modulus = subst (λ m. 0 < m) (sym law.modulus) (let two = range.0 in omega (arith, two)) in
     let line : 1 ≤ q.line = subst (λ n. 1 ≤ n) (sym keeps.line) limits.header.of_line.0 in
+    let faithful : IsFaithful size lanes p =
+    λ x turns orders long low.
+    in_place_is_same z q law.fits line x turns (subst (λ (n : ℕ). n ≤ length x) (sym law.size) long)
+    ∙ quickened_is_same z q law.fits lazy some line x turns
+    (subst (λ (m : ℕ). All (λ v. v < m) x) (sym law.modulus) low)
+    ∙ law.same x turns orders in
     record {
       fits = in_place_fits q (fast_words size q) (quickened_fits z q law.fits lazy some);
       apart = in_place_apart z q law.apart;
-      faithful = λ x turns orders long low.
-          in_place_is_same z q law.fits line x turns (subst (λ (n : ℕ). n ≤ length x) (sym law.size) long)
-          ∙ quickened_is_same z q law.fits lazy some line x turns
-          (subst (λ (m : ℕ). All (λ v. v < m) x) (sym law.modulus) low)
-          ∙ law.same x turns orders;
+      faithful = faithful;
+      again = λ fresh left x turns orders are long low.
+          fresh_words_ignore_leftovers (words_for size lanes p) left (in_place_fresh z q law.fits line fresh) are x turns
+          (long ∙ sym law.size)
+          ∙ faithful x turns orders (le_of_eq (sym long)) low;
     }

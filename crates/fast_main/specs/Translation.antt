@@ -1,6 +1,8 @@
 -- The C text of a program, and what the words that it spells leave.
 use Rattle.std.specs.Prelude.{◌≡◌, ℕ, ◌==◌, ◌<◌, ◌≤◌, nat_lt, Bool, true, false, List, length, All, if◌then◌else◌}
 use Rattle.icode.specs.Actions.{plain_code}
+use Rattle.icode.specs.Fresh.{IsFresh}
+use Rattle.icode.specs.Leftovers.{AreLeftovers, Leftovers}
 use Rattle.icode.specs.Machine.{IsApart, results}
 use Rattle.icode.specs.Plain.{PlainProgram}
 use Rattle.fast_main.specs.FastWords.Asked.{Asked}
@@ -14,6 +16,7 @@ use Rattle.word_code.specs.Bare.{WordsFit}
 use Rattle.word_code.specs.declared.choose.WordSize.{WordSize}
 use Rattle.word_code.specs.declared.choose.WordSize.TheVariants.{Any, Of32, Of52, Of64}
 use Rattle.word_code.specs.Choice.{fast_words}
+use Rattle.word_code.specs.FreshWords.{word_results_among}
 use Rattle.word_code.specs.WordMachine.{under, word_results}
 use Rattle.word_code.specs.WordProgram.{PlainWordProgram, word_code}
 use Rattle.word_code.specs.WordPrint.WordText.{words_text}
@@ -61,9 +64,19 @@ IsFaithful size lanes p =
     (x turns orders : List ℕ) → p.size ≤ length x → All (λ v. v < p.modulus) x →
     word_results (word_code (words_for size lanes p)) x turns ≡ results (plain_code p) x orders
 
+-- for every vector of residues, whatever is left over in the arrays and in the registers where a phase begins, and for
+-- every order of turns, the program on words leaves in Y the words that the program leaves from the start
+abbrev pub IsFaithfulAmong : WordSize → ℕ → PlainProgram → Type 0
+IsFaithfulAmong size lanes p =
+    (left : Leftovers) (x turns orders : List ℕ) → AreLeftovers (under (word_code (words_for size lanes p))) left →
+    length x ≡ p.size → All (λ v. v < p.modulus) x →
+    word_results_among (word_code (words_for size lanes p)) left x turns ≡ results (plain_code p) x orders
+
 -- each place and each register of the program on words is there and its numbers are words, no processor touches a
--- line that another writes in the phase, and it leaves what the program leaves
+-- line that another writes in the phase, and it leaves what the program leaves, among leftovers too where
+-- the prepared program is fresh
 pub record AreSoundWords (size : WordSize) (lanes : ℕ) (p : PlainProgram) : Type 0 where
   pub fits : WordsFit (words_for size lanes p)
   pub apart : (phase : ℕ) → IsApart (under (word_code (words_for size lanes p))) phase
   pub faithful : IsFaithful size lanes p
+  pub again : IsFresh (plain_code (prepared size lanes p)) → IsFaithfulAmong size lanes p

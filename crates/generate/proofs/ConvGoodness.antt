@@ -61,7 +61,7 @@ use Rattle.generate.specs.ConvPlanned.{IsConvPlanned}
 use Rattle.matrix_meaning.specs.declared.Kind.{Kind}
 use Rattle.ring_mod.specs.Residue.{product_mod}
 use Rattle.generate.proofs.TreePasses.Merged.{trees_are_merged, trees_mean}
-use Rattle.generate.proofs.Performed.{CountsPasses, alone, performed-counts, any-turns, header-of, items-of, flat-loads}
+use Rattle.generate.proofs.Performed.{CountsPasses, alone, performed-counts, among-leftovers, any-turns, header-of, items-of, flat-loads}
 use Rattle.generate.proofs.Performed.{flat-number, tree-totals}
 
 -- ---- trees of a request for convolutions, which is of one size and no inverse
@@ -313,6 +313,13 @@ module _ (r : Request) (t : Breakdown) (ls : List ℕ) (request : IsConvRequest 
               any-turns (target_of r) (conv_merged r t ds) p performs x turns
               ∙ performs.results x items
               ∙ joined-convolve r t ls request valid h principal x items;
+          again = λ left x turns are vector _.
+              let items = items-of r x vector in
+              among-leftovers (target_of r) (conv_merged r t ds) p performs left x turns are vector.size
+              ∙ any-turns (target_of r) (conv_merged r t ds) p performs x turns
+              ∙ performs.results x items
+              ∙ joined-convolve r t ls request valid h principal x items;
+          fresh = performs.fresh;
           operations =
               let all = both.operations r.weight (omega (arith, weight)) in
               let one = whole.operations in

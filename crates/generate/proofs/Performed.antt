@@ -13,6 +13,8 @@ use Rattle.code_gen.specs.PassCode.Contract.{Performs, joined, in_a_row}
 use Rattle.code_gen.specs.PassCode.Program.{written_array}
 use Rattle.icode.proofs.Counting.{add-up, weighted-append}
 use Rattle.icode.proofs.Lists.{code_is}
+use Rattle.icode.specs.Leftovers.{AreLeftovers, Leftovers, results_among}
+use Rattle.icode.proofs.FreshCodes.{fresh_ignores_leftovers, programs_have_factors}
 use Rattle.icode.proofs.Runs.{memory_of_runs}
 use Rattle.icode.specs.Actions.{plain_code}
 use Rattle.icode.specs.Machine.{acts, counts_of, padded, results, weighted, whole_counts, words_at, Code}
@@ -122,6 +124,13 @@ module _ (h : Target) (g : PlainMerged) (p : PlainProgram) (performs : Performs 
       let first = memory_of_runs (plain_code p) (code_is p) performs.apart x turns in
       let none = memory_of_runs (plain_code p) (code_is p) performs.apart x [] in
       ap (λ memory. words_at p.size memory (padded (plain_code p))) (first ∙ sym none)
+
+  -- neither does what is left over
+  pub among-leftovers : (left : Leftovers) (x turns : List ℕ) → AreLeftovers (plain_code p) left → length x ≡ h.size →
+      results_among (plain_code p) left x turns ≡ results (plain_code p) x turns
+  among-leftovers left x turns are size =
+      fresh_ignores_leftovers (plain_code p) left (code_is p) (programs_have_factors p) performs.fresh are x turns
+      (size ∙ sym performs.size)
 
   pub phases-performed : length (plain_code p).lists ≡ length g.phases
   phases-performed = length-map p.phases _ ∙ performs.phases
@@ -351,9 +360,6 @@ module _ (r : Request) (t : Breakdown) (p : PlainProgram) (valid : IsValid r) (h
   known : IsMergedTree r t (tree_merged r t)
   known = trees_are_merged r t valid h
 
-  some-procs : 0 < r.procs
-  some-procs = let procs = valid.in_range.procs in omega (arith, procs)
-
   some-weight : 0 < r.weight
   some-weight = let weight = valid.in_range.weight in omega (arith, weight)
 
@@ -376,6 +382,10 @@ module _ (r : Request) (t : Breakdown) (p : PlainProgram) (valid : IsValid r) (h
         fits = performs.fits;
         product = λ x turns vector _.
             any-turns (target_of r) (tree_merged r t) p performs x turns ∙ transforms x vector;
+        again = λ left x turns are vector _.
+            among-leftovers (target_of r) (tree_merged r t) p performs left x turns are vector.size
+            ∙ any-turns (target_of r) (tree_merged r t) p performs x turns ∙ transforms x vector;
+        fresh = performs.fresh;
         apart = performs.apart;
         operations = λ q low. (share q low).operations r.weight some-weight ∙ totals.operations;
       }
@@ -384,8 +394,6 @@ module _ (r : Request) (t : Breakdown) (p : PlainProgram) (valid : IsValid r) (h
   lean =
       record {
         parts = lean-code r t (tree_merged r t) p some-weight known performs;
-        loads = whole-of r.procs (whole_loads r t) (λ q. (whole_counts (plain_code p) q).loads) some-procs
-            (λ q low. (share q low).loads ∙ totals.loads);
-        stores = whole-of r.procs (whole_stores r t) (λ q. (whole_counts (plain_code p) q).stores) some-procs
-            (λ q low. (share q low).stores ∙ ap (λ n. r.size * n) totals.number);
+        loads = λ q low. (share q low).loads ∙ totals.loads;
+        stores = λ q low. (share q low).stores ∙ ap (λ n. r.size * n) totals.number;
       }

@@ -3,6 +3,8 @@ use Rattle.std.specs.Prelude.{◌≡◌, ℕ, ◌*◌, ◌<◌, List, length, Al
 use Rattle.matrix_meaning.specs.Convolution.{convolution}
 use Rattle.generate.specs.Good.{HasHeader, IsVector}
 use Rattle.icode.specs.Actions.{PlainFits, plain_code}
+use Rattle.icode.specs.Fresh.{IsFresh}
+use Rattle.icode.specs.Leftovers.{AreLeftovers, Leftovers, results_among}
 use Rattle.icode.specs.Limits.{IsWithinLimits}
 use Rattle.icode.specs.Machine.{IsApart, results, weighted, whole_counts}
 use Rattle.icode.specs.Plain.{PlainProgram}
@@ -22,6 +24,9 @@ pub record IsConvolver (r : Request) (t : Breakdown) (h : List ℕ) (p : PlainPr
   pub apart : (phase : ℕ) → IsApart (plain_code p) phase
   pub product : (x turns : List ℕ) → IsVector r x → All (λ q. q < r.procs) turns →
       results (plain_code p) x turns ≡ convolution r.modulus r.size h x
+  pub again : (left : Leftovers) (x turns : List ℕ) → AreLeftovers (plain_code p) left → IsVector r x →
+      All (λ q. q < r.procs) turns → results_among (plain_code p) left x turns ≡ convolution r.modulus r.size h x
+  pub fresh : IsFresh (plain_code p)
   pub operations : weighted r.weight (whole_counts (plain_code p) 0) ≡ conv_cost r t
   pub loads : (whole_counts (plain_code p) 0).loads ≡ 2 * loads_of r t
   pub stores : (whole_counts (plain_code p) 0).stores ≡ 2 * stores_of r t

@@ -1,5 +1,5 @@
 -- The programs of requests, of convolutions and of formulas are good.
-use Rattle.std.specs.Prelude.{ℕ, ◌^◌, ◌<◌, ◌≤◌, List, Ok}
+use Rattle.std.specs.Prelude.{ℕ, ◌^◌, ◌<◌, ◌≤◌, List, length, Ok}
 use Rattle.generate.specs.ConvPlanned.{IsConvPlanned}
 use Rattle.generate.specs.Convolver.{IsConvolver}
 use Rattle.generate.specs.Emission.Whole.{conv_emission, emission}
@@ -17,12 +17,13 @@ use Rattle.spl_ast.specs.Shape.{IsShaped}
 use Rattle.tree_model.specs.Breakdown.{Breakdown}
 use Rattle.tree_model.specs.Chosen.{whole_cost}
 
--- the program of a request's planned tree is good for the request, at the
--- cost of the tree, and lean, and it stands within the limits of listings
+-- the program of a request's planned tree is good for the request, at the cost of the tree, and lean, and it stands
+-- within the limits of listings, with no more tables than a word can count
 abbrev pub ProgramsAreGood : Type 0
 ProgramsAreGood =
     (r : Request) (t : Breakdown) → IsInRange r → IsPlanned r (Ok t) →
     IsGood r (whole_cost r t) (emission r t) × IsLean r t (emission r t) × IsWithinLimits (emission r t)
+    × (length (emission r t).tables ≤ 2 ^ 64)
 
 -- the program of a planned tree and a list is one for convolutions with the list
 abbrev pub ConvProgramsConvolve : Type 0

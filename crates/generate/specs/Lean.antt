@@ -1,4 +1,4 @@
--- What the processors execute phase by phase and pass by pass, and what all of them load and store.
+-- What the processors execute phase by phase and pass by pass, and what each of them loads and stores.
 use Rattle.std.specs.Prelude.{◌≡◌, ℕ, suc, ◌*◌, ◌==◌, ◌<◌, if◌then◌else◌, List, [], ◌∷◌, flat_map, length, map, All}
 use Rattle.std.specs.List.{range_with_len}
 use Rattle.icode.specs.Actions.{array_start, plain_code}
@@ -8,7 +8,6 @@ use Rattle.icode.specs.declared.program.Array.TheVariants.{X}
 use Rattle.icode.specs.Machine.{Code, acts, counts_of, weighted, whole_counts, whole_lines}
 use Rattle.icode.specs.Plain.{PlainProgram}
 use Rattle.matrix_meaning.specs.declared.Request.{Request}
-use Rattle.operators.specs.Sum.{sum_below}
 use Rattle.code_gen.specs.PassCode.Contract.{Stays, in_a_row, joined}
 use Rattle.code_gen.specs.PassCode.Program.{written_array}
 use Rattle.tree_model.specs.Breakdown.{Breakdown}
@@ -52,8 +51,8 @@ pub record IsLeanCode (r : Request) (t : Breakdown) (code : Code) : Type 0 where
   pub lists : (q : ℕ) → q < r.procs → IsLeanList r phases code q
 
 -- The actions of each processor are, phase by phase, one part for each pass of
--- the tree; all processors together load and store exactly what the passes do
+-- the tree; each processor loads and stores an equal share of what the passes do
 pub record IsLean (r : Request) (t : Breakdown) (p : PlainProgram) : Type 0 where
   pub parts : IsLeanCode r t (plain_code p)
-  pub loads : sum_below r.procs (λ q. (whole_counts (plain_code p) q).loads) ≡ whole_loads r t
-  pub stores : sum_below r.procs (λ q. (whole_counts (plain_code p) q).stores) ≡ whole_stores r t
+  pub loads : (q : ℕ) → q < r.procs → r.procs * (whole_counts (plain_code p) q).loads ≡ whole_loads r t
+  pub stores : (q : ℕ) → q < r.procs → r.procs * (whole_counts (plain_code p) q).stores ≡ whole_stores r t

@@ -45,8 +45,8 @@ pub struct Feed {
 }
 
 impl Model for Feed {
-    ghost use Rattle.std.specs.Prelude.{◌<◌, ◌≤◌, ◌+◌, ◌-◌, take, drop, length};
-    ghost use Rattle.io_edge.specs.Feed.{Fed, limit};
+    ghost use Rattle.std.specs.Prelude.{◌≡◌, ◌<◌, ◌≤◌, ◌+◌, ◌-◌, take, drop, length};
+    ghost use Rattle.io_edge.specs.Feed.{Fed, limit, most_held};
 
     ghost Value = { Fed };
 
@@ -56,11 +56,11 @@ impl Model for Feed {
     } };
 
     ghost invariant = { λ f. (f.at ≤ f.filled) × (f.filled ≤ length f.block.items)
-        × (0 < length f.block.items) × (f.taken ≤ limit + 1) };
+        × (length f.block.items ≡ most_held) × (f.taken ≤ limit + 1) };
 }
 
 impl Feed {
-    ghost use Rattle.io_edge.specs.Feed.{Feeds, limit, to_come};
+    ghost use Rattle.io_edge.specs.Feed.{Feeds, limit, most_held, to_come};
 
     /// How many bytes a feed gives at most.
     pub const LIMIT: u64 = 1 << 30;
@@ -96,6 +96,13 @@ impl Feed {
             return Err(FeedFault::TooLong);
         }
         Ok(Some(byte))
+    }
+
+    /// It holds no more bytes than it asks its source for at a time.
+    pub fn holds_a_block(&self)
+        ensures { length self.now.held ≤ most_held }
+    {
+        let _ = &self.block;
     }
 
     fn is_empty(&self) -> bool

@@ -5,14 +5,14 @@ ghost use Rattle.std.specs.Io.KnownBytes.{WriteAppends};
 ghost use Rattle.io_edge.specs.Faults.{HasCause};
 ghost use Rattle.io_edge.specs.Memory.{Store, next_count};
 
-use crate::{Failed, Sink};
+use crate::{Failed, Sink, Tape};
 use memory::NoMemory;
 use std::alloc::Global;
 use std::io::Write;
 use std::marker::Model;
 
-/// Keeps what it takes, as far as it has room. It fails at the calls of a list, counted from 0,
-/// and where there is something to take and no room is left.
+/// Keeps what it takes, as far as it has room. It fails at the calls of a list, counted from 0, and where there is
+/// something to take and no room is left, and from then on.
 #[derive(Drop)]
 pub struct MemSink {
     bytes: Vec<u8>,
@@ -73,10 +73,11 @@ impl Sink for MemSink {
         ensures some { 0 < length piece.now → IfOk result (λ count. 0 < count) }
         ensures bytes { WriteAppends (Some self.old.kept) (Some self.new.kept) result piece.now }
         ensures cause { HasCause self.old.faults self.new.faults result }
+        ensures broken { 0 < self.old.faults → IsErr result }
 
-        // It fails at the listed calls and at a full room alone, and takes as much as it may.
-        ensures fails { IsErr result ↔ (Contains self.old.fail_at self.old.calls
-            ⊎ ((0 < length piece.now) × (length self.old.kept ≡ self.old.room))) }
+        // It fails at the listed calls, at a full room and after a fault alone, and takes as much as it may.
+        ensures fails { IsErr result ↔ ((0 < self.old.faults) ⊎ (Contains self.old.fail_at self.old.calls
+            ⊎ ((0 < length piece.now) × (length self.old.kept ≡ self.old.room)))) }
         ensures count { IfOk result
             (λ count. count ≡ min (length piece.now) (self.old.room - length self.old.kept)) }
         ensures calls { self.new.calls ≡ next_count self.old.calls }
@@ -85,7 +86,7 @@ impl Sink for MemSink {
         let call = self.calls;
         self.calls = call.saturating_add(1);
         let left = self.room as usize - self.bytes.len();
-        if self.fail_at.contains(&call) || (left == 0 && !piece.is_empty()) {
+        if self.faults > 0 || self.fail_at.contains(&call) || (left == 0 && !piece.is_empty()) {
             self.faults = self.faults.saturating_add(1);
             return Err(Failed);
         }
@@ -120,6 +121,7 @@ impl Sink for CountSink {
         ensures some { 0 < length piece.now → IfOk result (λ count. 0 < count) }
         ensures bytes { WriteAppends None None result piece.now }
         ensures cause { HasCause 0 0 result }
+        ensures broken { 0 < 0 → IsErr result }
 
         // It takes the whole piece. The count stays at its last value.
         ensures all { IfOk result (λ count. count ≡ length piece.now) }
@@ -130,32 +132,47 @@ impl Sink for CountSink {
     }
 }
 
-/// A writer of std as a sink. Each error counts as a fault, and so does a piece of which it takes nothing.
+/// A writer of std as a sink. Each error counts as a fault, and so does a piece of which it takes nothing. A writer that
+/// has failed is not asked again.
 #[derive(Drop)]
 pub struct WriteSink<W> {
     /// The writer.
     pub inner: W,
     /// How often it has failed. The count stays at its last value.
     pub faults: u64,
+    /// The bytes that it has taken.
+    pub tape: Tape,
 }
 
 impl<W: Write> WriteSink<W> {
     pub fn new(inner: W) -> Self
         ensures inner { result.inner ≡ inner }
         ensures faults { result.faults ≡ 0 }
+        ensures tape { result.tape.bytes ≡ [] }
     {
-        WriteSink { inner, faults: 0 }
+        WriteSink {
+            inner,
+            faults: 0,
+            tape: Tape::new(),
+        }
     }
 }
 
 impl<W: Write> Sink for WriteSink<W> {
-    ghost taken = { λ s. W.contents s.inner };
+    ghost taken = { λ s. Some s.tape.bytes };
 
     ghost faults = { λ s. s.faults };
 
     fn write(&mut self, piece: &[u8]) -> Result<usize, Failed> {
+        if self.faults > 0 {
+            self.faults = self.faults.saturating_add(1);
+            return Err(Failed);
+        }
         match self.inner.write(piece) {
-            Ok(count) if count > 0 || piece.is_empty() => Ok(count),
+            Ok(count) if count > 0 || piece.is_empty() => {
+                self.tape.note(&piece[..count]);
+                Ok(count)
+            }
             _ => {
                 self.faults = self.faults.saturating_add(1);
                 Err(Failed)

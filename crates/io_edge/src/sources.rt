@@ -1,5 +1,5 @@
 // Sources in memory, and over any reader.
-ghost use Rattle.std.specs.Prelude.{◌≡◌, ◌<◌, ◌↔◌, min, false, Some, length, take, drop, vec_len, Contains, IsErr, IfOk, OnErr};
+ghost use Rattle.std.specs.Prelude.{◌≡◌, ◌<◌, ◌⊎◌, ◌↔◌, min, false, Some, length, take, drop, vec_len, Contains, IsErr, IfOk, OnErr};
 ghost use Rattle.std.specs.Io.{ReadsAtMost};
 ghost use Rattle.std.specs.Io.KnownBytes.{ReadConsumes};
 ghost use Rattle.io_edge.specs.Faults.{HasCause};
@@ -20,7 +20,7 @@ fn fill(bytes: &[u8], limit: usize, buf: &mut [u8]) -> usize
     count
 }
 
-/// Bytes in memory, given in steps. It fails at the calls of a list, counted from 0.
+/// Bytes in memory, given in steps. It fails at the calls of a list, counted from 0, and from then on.
 #[derive(Drop)]
 pub struct MemSource {
     bytes: Vec<u8>,
@@ -80,9 +80,11 @@ impl Source for MemSource {
         ensures bound { ReadsAtMost result buf.new }
         ensures bytes { ReadConsumes (Some self.old.left) (Some self.new.left) result buf.new }
         ensures cause { HasCause self.old.faults self.new.faults result }
+        ensures broken { 0 < self.old.faults → IsErr result }
 
-        // It fails at the listed calls alone, and gives as much as it may.
-        ensures fails { IsErr result ↔ Contains self.old.fail_at self.old.calls }
+        // It fails at the listed calls and after a fault alone, and gives as much as it may.
+        ensures fails { IsErr result
+            ↔ ((0 < self.old.faults) ⊎ Contains self.old.fail_at self.old.calls) }
         ensures count { IfOk result
             (λ count. count ≡ min self.old.step (min (length buf.old) (length self.old.left))) }
         ensures calls { self.new.calls ≡ next_count self.old.calls }
@@ -90,7 +92,7 @@ impl Source for MemSource {
     {
         let call = self.calls;
         self.calls = call.saturating_add(1);
-        if self.fail_at.contains(&call) {
+        if self.faults > 0 || self.fail_at.contains(&call) {
             self.faults = self.faults.saturating_add(1);
             return Err(Failed);
         }
@@ -137,7 +139,8 @@ impl Source for QuietSource {
     }
 }
 
-/// A reader of std as a source. Each error counts as a fault. A reader that gave none is not asked again.
+/// A reader of std as a source. Each error counts as a fault. A reader that gave none, or that has failed, is not asked
+/// again.
 #[derive(Drop)]
 pub struct ReadSource<R> {
     /// The reader.
@@ -168,6 +171,10 @@ impl<R: Read> Source for ReadSource<R> {
     ghost faults = { λ s. s.faults };
 
     fn read(&mut self, buf: &mut [u8]) -> Result<usize, Failed> {
+        if self.faults > 0 {
+            self.faults = self.faults.saturating_add(1);
+            return Err(Failed);
+        }
         if self.ended {
             return Ok(0);
         }

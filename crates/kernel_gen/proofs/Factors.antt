@@ -35,6 +35,7 @@ module _ (m weight : ℕ) (positive : 0 < m) where
             next_is = omega arith;
             kept = λ g r under. refl;
             within = tt;
+            ordered = tt;
             below = (low, tt);
             sized = refl;
             costs = refl;
@@ -45,6 +46,7 @@ module _ (m weight : ℕ) (positive : 0 < m) where
             next_is = omega arith;
             kept = λ g r under. other_register g r next _ (omega arith);
             within = ((omega arith, omega arith), tt);
+            ordered = ((refl, low), tt);
             below = (omega arith, tt);
             sized = refl;
             costs = refl;
@@ -57,6 +59,7 @@ module _ (m weight : ℕ) (positive : 0 < m) where
             next_is = omega arith;
             kept = λ g r under. other_register g r next _ (omega arith);
             within = ((omega arith, omega arith, residue), tt);
+            ordered = ((refl, low), tt);
             below = (omega arith, tt);
             sized = refl;
             costs = omega arith;

@@ -9,6 +9,7 @@ use Rattle.operators.proofs.Lists.{length-list_below}
 use Rattle.kernel_gen.specs.declared.straight.Instruction.{Instruction}
 use Rattle.kernel_gen.specs.Instructions.{action_by, code_effect, code_cost, AreWithin}
 use Rattle.kernel_gen.specs.Making.{Made, Maker, none_make, pick_make, then_make, beside_make}
+use Rattle.kernel_gen.specs.Ordered.{AreOrdered}
 use Rattle.kernel_gen.proofs.Below.{AllBelow, AllBelow-more, AllBelow-append, map-agree, map-joined, length-joined}
 use Rattle.kernel_gen.proofs.Below.{ReadsBelow, map-gather, gather-below}
 use Rattle.kernel_gen.proofs.Instructions.{AreWithin-more, AreWithin-append}
@@ -29,6 +30,12 @@ pub code_cost-append : (weight : ℕ) (xs ys : List Instruction) →
     code_cost weight (xs ++ ys) ≡ code_cost weight xs + code_cost weight ys
 code_cost-append weight xs ys = ap (weighted_operations weight) (map-append (action_by 1) xs ys) ∙ weighted-append weight _ _
 
+pub ordered-append : (next other : ℕ) (xs ys : List Instruction) → other ≡ next + length xs → AreOrdered next xs →
+    AreOrdered other ys → AreOrdered next (xs ++ ys)
+ordered-append next other [] ys at first rest = subst (λ n. AreOrdered n ys) (omega (arith, at)) rest
+ordered-append next other (i ∷ xs) ys at first rest =
+    (first.0, ordered-append (next + 1) other xs ys (omega (arith, at)) first.1 rest)
+
 pub length-code : (xs ys : List Instruction) → length (xs ++ ys) ≡ length xs + length ys
 length-code [] ys = omega arith
 length-code (i ∷ xs) ys = omega (arith, length-code xs ys)
@@ -36,11 +43,12 @@ length-code (i ∷ xs) ys = omega (arith, length-code xs ys)
 -- ---- what a piece does
 
 -- The code puts f of the inputs into its k outputs. It leaves the registers that are in use, uses none past its own, one for
--- each instruction, multiplies by residues, and costs so much where a multiplication counts as `weight` operations.
+-- each instruction in their order, multiplies by residues, and costs so much where a multiplication counts as `weight` operations.
 pub record DoesAt (m weight k price : ℕ) (ins : List ℕ) (next : ℕ) (made : Made) (f : Operator) : Type 0 where
   pub next_is : made.next ≡ next + length made.code
   pub kept : (g : Registers) (r : ℕ) → r < next → code_effect m made.code g r ≡ g r
   pub within : AreWithin m made.next made.code
+  pub ordered : AreOrdered next made.code
   pub below : AllBelow made.next made.outs
   pub sized : length made.outs ≡ k
   pub costs : code_cost weight made.code ≡ price
@@ -63,6 +71,7 @@ module _ (m weight : ℕ) where
         next_is = done.next_is;
         kept = done.kept;
         within = done.within;
+        ordered = done.ordered;
         below = done.below;
         sized = done.sized;
         costs = done.costs ∙ price_is;
@@ -92,6 +101,7 @@ module _ (m weight : ℕ) where
               next_is = omega arith;
               kept = λ g r low. refl;
               within = tt;
+              ordered = tt;
               below = gather-below next n k f ins size reads under;
               sized = length-list_below k _;
               costs = refl;
@@ -119,6 +129,7 @@ module _ (m weight : ℕ) where
               next_is = let all = length-code made.code more.code in omega arith;
               kept = λ g r under. ap (λ (z : Registers). z r) (code_effect-append m made.code more.code g) ∙ b.kept (code_effect m made.code g) r (omega arith) ∙ a.kept g r under;
               within = AreWithin-append m _ made.code _ (AreWithin-more m made.next _ made.code (omega arith) a.within) b.within;
+              ordered = ordered-append next made.next made.code more.code a.next_is a.ordered b.ordered;
               below = b.below;
               sized = b.sized;
               costs = code_cost-append weight made.code more.code ∙ ap₂ (λ x y. x + y) a.costs b.costs;
@@ -147,6 +158,7 @@ module _ (m weight : ℕ) where
               next_is = let all = length-code made.code more.code in omega arith;
               kept = λ g r under. ap (λ (z : Registers). z r) (code_effect-append m made.code more.code g) ∙ b.kept (code_effect m made.code g) r (omega arith) ∙ a.kept g r under;
               within = AreWithin-append m _ made.code _ (AreWithin-more m made.next _ made.code (omega arith) a.within) b.within;
+              ordered = ordered-append next made.next made.code more.code a.next_is a.ordered b.ordered;
               below = AllBelow-append _ made.outs _ (AllBelow-more _ _ made.outs (omega arith) a.below) b.below;
               sized = length-joined made.outs _ ∙ ap₂ (λ x y. x + y) a.sized b.sized;
               costs = code_cost-append weight made.code more.code ∙ ap₂ (λ x y. x + y) a.costs b.costs;

@@ -12,10 +12,11 @@ use Rattle.ring_mod.proofs.LastResidue.{add_last_times}
 use Rattle.kernel_gen.specs.declared.straight.Instruction.TheVariants.{Add, Sub, Mul}
 use Rattle.kernel_gen.specs.Instructions.{action_by, code_effect, code_cost, AreWithin}
 use Rattle.kernel_gen.specs.Making.{Made, Term, term_make, sum_make}
+use Rattle.kernel_gen.specs.Ordered.{AreOrdered}
 use Rattle.tree_model.specs.KernelCosts.{product_cost}
 use Rattle.kernel_gen.proofs.Below.{AllBelow, AllBelow-more, map-agree}
 use Rattle.kernel_gen.proofs.Instructions.{AreWithin-more, AreWithin-append}
-use Rattle.kernel_gen.proofs.Pieces.{DoesAt, code_effect-append, code_cost-append, length-code}
+use Rattle.kernel_gen.proofs.Pieces.{DoesAt, code_effect-append, code_cost-append, length-code, ordered-append}
 
 -- the entries from place l on, times the numbers
 abbrev pub dot : (ℕ → ℕ) → ℕ → List ℕ → ℕ
@@ -38,6 +39,7 @@ record IsTerm (m weight price c acc i next : ℕ) (t : Term) : Type 0 where
   to : t.acc < t.next
   kept : (g : Registers) (r : ℕ) → r < next → code_effect m t.code g r ≡ g r
   within : AreWithin m t.next t.code
+  ordered : AreOrdered next t.code
   costs : code_cost weight t.code ≡ 1 + price
   value : (g : Registers) → g i < m → code_effect m t.code g t.acc ≡ (g acc + c * g i) % m
 
@@ -58,6 +60,7 @@ module _ (m weight : ℕ) (positive : 0 < m) where
             to = omega arith;
             kept = λ g r low. other_register g r next _ (omega arith);
             within = ((omega arith, omega arith, omega arith), tt);
+            ordered = ((refl, acc_in, i_in), tt);
             costs = refl;
             value = λ g small.
                 this_register g next ((g acc + g i) % m) ∙ ap (λ z. (g acc + z) % m) (sym (one-mul (g i))) ∙ ap (λ z. (g acc + z * g i) % m) (sym (eqb-true c 1 is));
@@ -69,6 +72,7 @@ module _ (m weight : ℕ) (positive : 0 < m) where
             to = omega arith;
             kept = λ g r low. other_register g r next _ (omega arith);
             within = ((omega arith, omega arith, omega arith), tt);
+            ordered = ((refl, acc_in, i_in), tt);
             costs = refl;
             value = λ g small.
                 this_register g next ((g acc + (m - g i)) % m) ∙ sym (add_last_times m (g acc) (g i) positive (omega arith)) ∙ ap (λ z. (g acc + z * g i) % m) (sym (eqb-true c (m - 1) is));
@@ -80,6 +84,7 @@ module _ (m weight : ℕ) (positive : 0 < m) where
             to = omega arith;
             kept = λ g r low. other_register (lane_effect m 0 (action_by 1 (Mul next i c)) g) r (next + 1) _ (omega arith) ∙ other_register g r next _ (omega arith);
             within = ((omega arith, omega arith, residue), ((omega arith, omega arith, omega arith), tt));
+            ordered = ((refl, i_in), ((refl, omega arith, omega arith), tt));
             costs = omega arith;
             value = λ g small.
                 let mid : Registers = lane_effect m 0 (action_by 1 (Mul next i c)) g in
@@ -95,6 +100,7 @@ module _ (m weight : ℕ) (positive : 0 < m) where
         next_is = omega arith;
         kept = λ g r low. refl;
         within = tt;
+        ordered = tt;
         below = (under.0, tt);
         sized = refl;
         costs = refl;
@@ -114,6 +120,7 @@ module _ (m weight : ℕ) (positive : 0 < m) where
         next_is = let all = length-code t.code made.code in omega arith;
         kept = λ g r low. ap (λ (z : Registers). z r) (code_effect-append m t.code made.code g) ∙ rest.kept (code_effect m t.code g) r (omega arith) ∙ first.kept g r low;
         within = AreWithin-append m made.next t.code made.code (AreWithin-more m t.next made.next t.code (omega arith) first.within) rest.within;
+        ordered = ordered-append next t.next t.code made.code first.next_is first.ordered rest.ordered;
         below = rest.below;
         sized = rest.sized;
         costs = code_cost-append weight t.code made.code ∙ ap₂ (λ x y. x + y) first.costs rest.costs;

@@ -46,8 +46,9 @@ use Rattle.spiral_main.proofs.RightLines.{spelt_in_range}
 known : (names bytes : List ℕ) (plan : Planned) → IsRightLine names bytes plan
     → IsLeanFor plan (emission plan.request plan.tree)
 known names bytes plan right =
-    programs_are_good plan.request plan.tree (spelt_in_range ((line 256).first bytes) plan.request right.spells)
-    right.planned
+    let range = spelt_in_range ((line 256).first bytes) plan.request right.spells in
+    let all = programs_are_good plan.request plan.tree range right.planned in
+    (all.0, all.1, all.2)
 
 -- P is among what is known of a lean program
 abbrev pub Keeps : (Planned → PlainProgram → Type 0) → Type 0

@@ -1,5 +1,6 @@
 pub mod Accounts
 pub mod Calls
+pub mod Generators
 pub mod Good
 pub mod OneAnswer
 pub mod OnePlan
@@ -10,3 +11,4 @@ pub mod RightLines
 pub mod RightRequests
 pub mod RunAnswer
 pub mod SomeOutcome
+pub mod Theorem

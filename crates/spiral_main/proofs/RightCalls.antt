@@ -176,7 +176,7 @@ right_calls words bytes left before after s right accounts read write =
     elim (memory_or s) [
       | inl none ↦ inl none
       | inr memory ↦
-          let found = accounts.answer (record { read = read; write = write; memory = memory }) in
+          let found = accounts.meets.answer (record { read = read; write = write; memory = memory }) in
           let success = right_success words bytes s found.0 right found.1 in
           inr (record { success = success; text = found.0; outcome = subst (λ (t : Status). IsOutcome words bytes t found.0) success found.1; took = found.2 })
     ]

@@ -169,7 +169,7 @@ pub right_success : (words : List (List ℕ)) (bytes left : List ℕ) (before af
     → Accounts words bytes left before after s → s ≢ ReadFault → s ≢ WriteFault → s ≢ NoMemory
     → (s ≡ Success) × Appends before after t
 right_success words bytes left before after s t own accounts read write memory =
-    let found = accounts.answer (record { read = read; write = write; memory = memory }) in
+    let found = accounts.meets.answer (record { read = read; write = write; memory = memory }) in
     let same : found.0 ≡ t = one_text words bytes s Success found.0 t found.1 own in
     (one_status words bytes s Success found.0 t found.1 own, subst (λ u. Appends before after u) same found.2)
 

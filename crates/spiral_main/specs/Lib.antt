@@ -2,3 +2,5 @@ pub mod Outcome
 pub mod Good
 pub mod RightFront
 pub mod Right
+pub mod Theorem
+pub mod Generator

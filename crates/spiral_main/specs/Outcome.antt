@@ -1,15 +1,18 @@
 -- What the program answers for its words and the bytes of its input, and what it writes.
-use Rattle.std.specs.Prelude.{◌⊎◌, ℕ, List}
+use Rattle.std.specs.Prelude.{◌≡◌, ◌≤◌, ◌⊎◌, ◌++◌, ℕ, List, [], length}
 use Rattle.std.specs.declared.option.Option.{Option}
-use Rattle.std.specs.Io.KnownBytes.{Appends}
+use Rattle.std.specs.Io.KnownBytes.{Appends, Consumes}
 use Rattle.io_edge.specs.Faults.{Rose}
+use Rattle.io_edge.specs.Feed.{most_held}
 use Rattle.io_edge.specs.Taken.{AppendsPrefix}
+use Rattle.io_edge.specs.Told.{Tells}
 use Rattle.spiral_words.specs.Asked.{IsAsked}
 use Rattle.spiral_words.specs.declared.Command.{Command}
 use Rattle.spiral_words.specs.declared.spiral_status.status.Status.{Status}
+use Rattle.spiral_words.specs.declared.spiral_status.status.Status.TheVariants.{ReadFault}
 use Rattle.commands.specs.Equations.Commands.{outcomes_of}
 use Rattle.commands.specs.SpiralInput.Commands.{commanded}
-use Rattle.commands.specs.SpiralInput.Outcomes.{Outcomes, Meets, SourceMeets}
+use Rattle.commands.specs.SpiralInput.Outcomes.{Outcomes, Meets}
 use Rattle.commands.specs.SpiralInput.Stage.{IsAnswerBy}
 
 -- the status and the text: the words ask for no command, and nothing is written, or they are right for this command
@@ -17,23 +20,44 @@ abbrev pub IsOutcome : List (List ℕ) → List ℕ → Status → List ℕ → 
 IsOutcome words bytes status text =
     IsAnswerBy (commanded words) (λ (command : Command). (outcomes_of command).answer bytes) status text
 
--- what is right for a call with these words
-abbrev pub call_outcomes : List (List ℕ) → Outcomes
-call_outcomes words = record {
-  answer = IsOutcome words;
-  broken = λ read ended text. (command : Command) × IsAsked words command
-      × (outcomes_of command).broken read ended text;
-  cut = λ read left text. (command : Command) × IsAsked words command × (outcomes_of command).cut read left text;
+-- what is right for a call with these words, by what is right for each command
+abbrev pub outcomes_for : (Command → Outcomes) → List (List ℕ) → Outcomes
+outcomes_for right words = record {
+  answer = λ bytes. IsAnswerBy (commanded words) (λ (command : Command). (right command).answer bytes);
+  broken = λ read ended text. (command : Command) × IsAsked words command × (right command).broken read ended text;
+  cut = λ read left text. (command : Command) × IsAsked words command × (right command).cut read left text;
 }
 
--- status and output of a run, by all the bytes of its input and by those that are left of them
-abbrev pub Accounts : List (List ℕ) → List ℕ → List ℕ → Option (List ℕ) → Option (List ℕ) → Status → Type 0
-Accounts words = Meets (call_outcomes words)
+abbrev pub call_outcomes : List (List ℕ) → Outcomes
+call_outcomes = outcomes_for outcomes_of
 
--- the same by an input: by the bytes that it gave, with all that it may have left
+-- Status and output of a run, by all the bytes of its input and by those that are left of them. Of the bytes that were
+-- read no more than a block are held, of which nothing was used; after a failed read, none
+pub record CallMeets (outcomes : Outcomes) (bytes left : List ℕ) (before after : Option (List ℕ))
+    (status : Status) : Type 0 where
+  pub held : List ℕ
+  pub few : length held ≤ most_held
+  pub none : status ≡ ReadFault → held ≡ []
+  pub meets : Meets outcomes bytes (held ++ left) before after status
+
+-- The same by an input: it gave these bytes, those that were used and those that are held, and with all that it may have
+-- left status and output are right
+pub record CallMeetsFor (outcomes : Outcomes) (source source' before after : Option (List ℕ))
+    (status : Status) : Type 0 where
+  pub used : List ℕ
+  pub held : List ℕ
+  pub consumed : Consumes source source' (used ++ held)
+  pub few : length held ≤ most_held
+  pub none : status ≡ ReadFault → held ≡ []
+  pub meets : (left : List ℕ) → Tells source' left →
+      Meets outcomes (used ++ (held ++ left)) (held ++ left) before after status
+
+abbrev pub Accounts : List (List ℕ) → List ℕ → List ℕ → Option (List ℕ) → Option (List ℕ) → Status → Type 0
+Accounts words = CallMeets (call_outcomes words)
+
 abbrev pub AccountsFor : List (List ℕ) → Option (List ℕ) → Option (List ℕ) → Option (List ℕ) → Option (List ℕ) → Status
     → Type 0
-AccountsFor words = SourceMeets (call_outcomes words)
+AccountsFor words = CallMeetsFor (call_outcomes words)
 
 -- the line went to the note whole, or a prefix of it where the note failed
 abbrev pub Notes : Option (List ℕ) → Option (List ℕ) → ℕ → ℕ → List ℕ → Type 0

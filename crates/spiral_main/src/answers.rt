@@ -21,6 +21,7 @@ ghost use Rattle.commands.specs.Equations.Orders.{Planned, planned};
 ghost use Rattle.commands.specs.FormulaCommands.Code.{IsCodeOf};
 ghost use Rattle.listing_text.specs.Listing.{listing_of};
 ghost use Rattle.request_text.specs.Turns.{named};
+ghost use Rattle.spiral_main.specs.Generator.{OneGenerator};
 ghost use Rattle.spiral_main.specs.Good.{IsGoodFor, IsLeanFor, Prints, Shows, ShowsConvolver, Traces, vectors_read};
 ghost use Rattle.spiral_main.specs.RightFront.{IsRightConvLine, IsRightFormulaLine, IsRightLine};
 ghost use Rattle.spl_ast.specs.Formula.{Formula};
@@ -39,6 +40,11 @@ pub fn answers_are_outcomes()
     ensures { (words : List (List ℕ)) (bytes : List ℕ) (wanted : SpecCommand)
         (status : SpecStatus) (text : List ℕ) → IsAsked words wanted
         → (outcomes_of wanted).answer bytes status text → IsOutcome words bytes status text }
+{}
+
+/// One generator has all programs that the commands write: what they do is known, and what each command answers.
+pub fn one_generator()
+    ensures { OneGenerator }
 {}
 
 /// What `plan` answers.

@@ -10,6 +10,7 @@ ghost use Rattle.spiral_words.specs.declared.spiral_status.status.Status.{Status
 ghost use Rattle.spiral_words.specs.declared.spiral_status.status.Status.TheVariants.{ReadFault, WriteFault, NoMemory};
 ghost use Rattle.spiral_main.specs.Outcome.{Accounts, AccountsFor, IsOutcome};
 ghost use Rattle.spiral_main.specs.Right.{IsRightCall, IsWithinBudget, Succeeds};
+ghost use Rattle.spiral_main.specs.Theorem.{TheProgramIsRight};
 ghost use Rattle.tree_model.specs.Breakdown.{Breakdown};
 ghost use Rattle.tree_model.specs.Chosen.{CanDivideWhole};
 
@@ -20,6 +21,13 @@ mod run;
 pub use run::spiral_run;
 pub use runs::{StreamFault, run_stream};
 pub use spiral_words::{Command, Status};
+
+/// The theorem of the program: for a right request `code` prints the listing of one program, which computes what is asked
+/// for under every order of turns, also with store buffers, shares no line, and does what the cheapest tree does in equal
+/// shares; and `run` writes the matrix times each vector.
+pub fn the_program_is_right()
+    ensures { TheProgramIsRight }
+{}
 
 /// The words and the bytes of a call determine its status.
 pub fn calls_have_one_status()

@@ -5,6 +5,8 @@ ghost use Rattle.io_edge.specs.Told.{IsOver};
 ghost use Rattle.io_edge.specs.Faults.{Reports};
 ghost use Rattle.commands.specs.SpiralInput.Commands.{AskForRest, AskForCommand, AreJudged};
 ghost use Rattle.spiral_main.specs.Outcome.{AccountsFor, Notes};
+ghost use Rattle.spiral_main.specs.Theorem.{IsRightRun};
+ghost use Rattle.spiral_words.specs.SpiralStatus.Status.{IsDefined};
 ghost use Rattle.commands.specs.SpiralInput.Stage.{status_of};
 ghost use Rattle.spiral_words.specs.SpiralStatus.Status.{note_line};
 
@@ -39,13 +41,25 @@ fn work<I: Source, O: Sink>(
     let mut feed = Feed::new(alloc)?;
     let command = asked(alloc, words)?;
     match command {
-        Command::ByRequest(command) => perform(alloc, &command, &mut feed, input, output),
-        Command::ByFormula { modulus, command } => {
-            by_formula(alloc, &modulus, &command, &mut feed, input, output)
+        Command::ByRequest(command) => {
+            let ended = perform(alloc, &command, &mut feed, input, output);
+            feed.holds_a_block();
+            ended
         }
-        Command::ByListing(schedule) => exec(alloc, &schedule, &mut feed, input, output),
+        Command::ByFormula { modulus, command } => {
+            let ended = by_formula(alloc, &modulus, &command, &mut feed, input, output);
+            feed.holds_a_block();
+            ended
+        }
+        Command::ByListing(schedule) => {
+            let ended = exec(alloc, &schedule, &mut feed, input, output);
+            feed.holds_a_block();
+            ended
+        }
         Command::ByList { schedule, code } => {
-            convolve(alloc, &schedule, code, &mut feed, input, output)
+            let ended = convolve(alloc, &schedule, code, &mut feed, input, output);
+            feed.holds_a_block();
+            ended
         }
     }
 }
@@ -76,6 +90,9 @@ pub fn spiral_run<I: Source, O: Sink, E: Sink>(
     output: &mut O,
     note: &mut E,
 ) -> Status
+    // The theorem: what `code` prints is right, and what `run` writes.
+    ensures right { IsDefined result → IsRightRun (map string_bytes words.now.items)
+        (I.left input.old) (I.left input.new) (O.taken output.old) (O.taken output.new) result }
     // The bytes that the input gave, with all that it may have left, and the words account for the status and for what
     // the output took. Where a read failed, that is the whole text of what the input gave.
     ensures told { AccountsFor (map string_bytes words.now.items)

@@ -9,3 +9,4 @@ pub mod Housing
 pub mod Walking
 pub mod Rerouting
 pub mod Fitting
+pub mod FreshInPlace

@@ -12,3 +12,4 @@ pub mod Same
 pub mod Kinds
 pub mod Choice
 pub mod Bare
+pub mod FreshWords

@@ -1,8 +1,14 @@
-// The law of programs on words.
+// The laws of programs on words.
 
+ghost use Rattle.word_code.specs.FreshWords.{FreshWordsIgnoreLeftovers};
 ghost use Rattle.word_code.specs.Laws.{QuickenedIsSame};
 
 /// A quickened program leaves the residues that the program leaves, whatever the order of turns.
 pub fn quickened_leaves_the_same()
     ensures { QuickenedIsSame }
+{}
+
+/// Words that read nothing that is left over leave the same among any leftovers.
+pub fn fresh_words_ignore_leftovers()
+    ensures { FreshWordsIgnoreLeftovers }
 {}

@@ -72,16 +72,25 @@ fn a_writer_that_takes_nothing_is_full(rt: HostRuntime) {
     same(&rt, full.faults, 1);
 }
 
-// Over steps, the bytes are the same, and a failed call takes none.
+// Over steps, the bytes are the same.
 fn read_in_steps(rt: &impl Abort, alloc: Global, step: u64) -> Result<(), Fail>
     requires { 0 < step }
 {
     let mut feed = Feed::new(alloc)?;
-    let mut source = MemSource::new(b"ab".to_vec(alloc)?, step, vec![in alloc; 0]?);
-    same_in(rt, feed.byte(&mut source), Err(FeedFault::ReadFault), step);
+    let mut source = MemSource::new(b"ab".to_vec(alloc)?, step, Vec::new(alloc));
     same_in(rt, feed.byte(&mut source), Ok(Some(b'a')), step);
     same_in(rt, feed.byte(&mut source), Ok(Some(b'b')), step);
     same_in(rt, feed.byte(&mut source), Ok(None), step);
+    Ok(())
+}
+
+#[test]
+fn a_source_that_has_failed_fails(rt: HostRuntime) -> Result<(), Fail> {
+    let alloc = rt.alloc();
+    let mut feed = Feed::new(alloc)?;
+    let mut source = MemSource::new(b"ab".to_vec(alloc)?, 4096, vec![in alloc; 0]?);
+    same(&rt, feed.byte(&mut source), Err(FeedFault::ReadFault));
+    same(&rt, feed.byte(&mut source), Err(FeedFault::ReadFault));
     Ok(())
 }
 
@@ -109,9 +118,11 @@ fn sinks_in_memory(rt: HostRuntime) -> Result<(), Fail> {
     let mut sink = MemSink::new(alloc, 3, vec![in alloc; 1]?)?;
     same(&rt, write_all(&mut sink, b"ab"), Ok(()));
     same(&rt, write_all(&mut sink, b"cd"), Err(WriteFault));
-    same(&rt, sink.bytes(), b"ab".as_slice());
     same(&rt, write_all(&mut sink, b"cd"), Err(WriteFault));
-    same(&rt, sink.bytes(), b"abc".as_slice());
+    same(&rt, sink.bytes(), b"ab".as_slice());
+    let mut full = MemSink::new(alloc, 3, Vec::new(alloc))?;
+    same(&rt, write_all(&mut full, b"abcd"), Err(WriteFault));
+    same(&rt, full.bytes(), b"abc".as_slice());
     Ok(())
 }
 

@@ -24,9 +24,11 @@ use Rattle.code_gen.specs.PassCode.Program.{tables_of_phases, tables_through}
 use Rattle.icode.proofs.CodeLaws.Placing.{slice_index-words_at}
 use Rattle.icode.specs.Limits.{IsWithinLimits, is_body_within}
 use Rattle.icode.specs.Machine.{Code, IsApart, Whole, phases_alone, results, runs, start, whole_lines, words_at}
-use Rattle.icode.specs.declared.program.Array.TheVariants.{X}
+use Rattle.icode.specs.declared.program.Array.TheVariants.{X, Y}
 use Rattle.icode.proofs.Lists.{code_is}
 use Rattle.icode.proofs.Runs.{memory_of_runs}
+use Rattle.icode.specs.Fresh.{IsFresh}
+use Rattle.code_gen.proofs.WholePrograms.FreshPhases.{all-fresh, fresh-code, Known}
 use Rattle.icode.proofs.Words.{length-words_at}
 use Rattle.operators.proofs.Lists.{length-list_below}
 use Rattle.code_gen.specs.PassCode.Contract.{CanProgram, IsByPhase, Performs, ProgramsPerform}
@@ -366,6 +368,20 @@ module _ (c : Target) (g : PlainMerged) (can : CanProgram c g) where
         each = all-are c enough code refl refl refl q low pss 0 X known;
       }
 
+  -- ---- it reads nothing that is left over
+
+  fresh : IsFresh code
+  fresh =
+      let all =
+      all-fresh c words enough code refl refl refl 0 pss 0 X known shared (λ some. target-other 0 (count_in pss - 1)) listed.0
+      (λ i below. inl (let here : 0 + i ≡ i = omega arith in omega (arith, here, below))) in
+      let count : 0 + length pss ≡ length pss = omega arith in
+      fresh-code c words enough code (code_is p) refl refl refl refl refl pss code-long count-some all.0
+      (λ i below.
+      subst (λ n. Known c words enough code refl refl refl n (array_start words Y + i)) count
+      (subst (λ a. Known c words enough code refl refl refl (0 + length pss) (array_start words a + i))
+      (final-is c words enough code refl refl refl pss 0 X count-some) (all.1 i below)))
+
   performs : Performs c g p
   performs =
       record {
@@ -378,6 +394,7 @@ module _ (c : Target) (g : PlainMerged) (can : CanProgram c g) where
         fits = fits;
         apart = apart;
         results = results-are;
+        fresh = fresh;
         phases = phases-long;
         parts = parts-listed;
       }

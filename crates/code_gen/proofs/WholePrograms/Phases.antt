@@ -211,7 +211,7 @@ module _ (c : Target) (words : ℕ) (enough : c.size ≤ words) (code : Code) (m
       ∙ ap (λ n. written_array n after) number
 
   -- what it writes, and others follow, is not what the next one does
-  other-after : (after : ℕ) (ps : List Pass) (t : ℕ) (source : Array) → IsOtherNext (after + length ps) t source →
+  pub other-after : (after : ℕ) (ps : List Pass) (t : ℕ) (source : Array) → IsOtherNext (after + length ps) t source →
       IsOtherNext after (t + length ps) (array_after after ps t source)
   other-after after [] t source other some =
       let here : t + 0 ≡ t = omega arith in

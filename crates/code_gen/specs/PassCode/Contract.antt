@@ -2,6 +2,7 @@
 use Rattle.std.specs.Prelude.{◌≡◌, ℕ, suc, ◌+◌, ◌*◌, ◌^◌, ◌<◌, ◌≤◌, List, [], ◌∷◌, ◌++◌, flat_map, length, All}
 use Rattle.std.specs.List.{range_with_len}
 use Rattle.icode.specs.Actions.{PlainFits, array_start, plain_code}
+use Rattle.icode.specs.Fresh.{IsFresh}
 use Rattle.icode.specs.Limits.{IsWithinLimits}
 use Rattle.icode.specs.Machine.{Code, IsApart, acts, counts_of, results, weighted, whole_lines}
 use Rattle.icode.specs.Plain.{PlainProgram}
@@ -86,7 +87,8 @@ pub record IsByPhase (h : Target) (g : PlainMerged) (code : Code) (q : ℕ) : Ty
   pub each : AreParts h 0 X (all_passes g.phases) (in_a_row phases)
 
 -- It is for the machine, stands within the limits and fits, and no processor touches a line that another writes in a
--- phase; run with no turns but those that complete it, it leaves what the merged passes do
+-- phase; run with no turns but those that complete it, it leaves what the merged passes do. It reads nothing that is left
+-- over
 pub record Performs (h : Target) (g : PlainMerged) (p : PlainProgram) : Type 0 where
   pub size : p.size ≡ h.size
   pub modulus : p.modulus ≡ h.modulus
@@ -97,6 +99,7 @@ pub record Performs (h : Target) (g : PlainMerged) (p : PlainProgram) : Type 0 w
   pub fits : PlainFits p
   pub apart : (phase : ℕ) → IsApart (plain_code p) phase
   pub results : (x : List ℕ) → IsVector h.modulus h.size x → results (plain_code p) x [] ≡ merged_on h.modulus g x
+  pub fresh : IsFresh (plain_code p)
   pub phases : length p.phases ≡ length g.phases
   pub parts : (q : ℕ) → q < h.procs → IsByPhase h g (plain_code p) q
 

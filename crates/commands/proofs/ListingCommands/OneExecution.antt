@@ -57,10 +57,14 @@ listing_once : (text : List ℕ) (r : Result PlainProgram ℕ) (p q : PlainProgr
 listing_once text (Ok value) p q j l m = j.1 p l ∙ sym (j.1 q m)
 listing_once text (Err lines) p q j l m = absurd (j.nothing p l)
 
-listed_decided : (text : List ℕ) → IsDecided (listed text)
-listed_decided text (Ok a) (Ok b) p q =
+-- a text is the listing of one program
+pub one_listing : (text : List ℕ) (p q : PlainProgram) → is_listing text p → is_listing text q → p ≡ q
+one_listing text p q =
     let read = read_lines (step listing_wording listing_grammar) finish None [] text in
-    ap done (listing_once text read a b (listing_judges text read refl) p q)
+    listing_once text read p q (listing_judges text read refl)
+
+listed_decided : (text : List ℕ) → IsDecided (listed text)
+listed_decided text (Ok a) (Ok b) p q = ap done (one_listing text a b p q)
 listed_decided text (Ok a) (Err t) p q = absurd (q.1.nothing a p)
 listed_decided text (Err s) (Ok b) p q = absurd (p.1.nothing b q)
 listed_decided text (Err s) (Err t) p q = ap ended (p.2 ∙ ap ListingSyntax (lost_once is_listing text p.0 q.0 p.1 q.1) ∙ sym q.2)

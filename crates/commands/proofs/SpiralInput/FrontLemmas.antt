@@ -103,19 +103,17 @@ front_meets {A} front is orders work bytes read rest taken value left out out' s
           );
       write_fault = λ e.
           let found = p.write_fault e in
-          let later : List ℕ = found.1 ++ left in
-          let none : rest ≡ [] → found.0 ≡ [] = λ end. (none_cut rest found.0 later found.3 end).0 in (
+          let none : rest ≡ [] → found.0 ≡ [] = λ end. (none_cut rest found.0 left found.2 end).0 in (
             read ++ found.0,
             found.1,
-            found.2,
-            whole ∙ ap (λ l. read ++ l) found.3 ∙ sym (append_assoc read found.0 later),
+            whole ∙ ap (λ l. read ++ l) found.2 ∙ sym (append_assoc read found.0 left),
             (
               value,
-              has found.0 (later ≡ []) none (λ end. (none_cut rest found.0 later found.3 end).1),
-              subst (λ n. (work value n).cut (front.behind (read ++ found.0)) later found.2) (room_after front read found.0 taken asked.0 (asked.1 found.0 none).1)
-                  (subst (λ b. (work value (limit - taken)).cut b later found.2) (sym (asked.1 found.0 none).1) found.4),
+              has found.0 (left ≡ []) none (λ end. (none_cut rest found.0 left found.2 end).1),
+              subst (λ n. (work value n).cut (front.behind (read ++ found.0)) left found.1) (room_after front read found.0 taken asked.0 (asked.1 found.0 none).1)
+                  (subst (λ b. (work value (limit - taken)).cut b left found.1) (sym (asked.1 found.0 none).1) found.3),
             ),
-            found.5,
+            found.4,
           );
     }
 

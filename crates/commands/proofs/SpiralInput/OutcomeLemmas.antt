@@ -1,11 +1,9 @@
 -- Status and output that are right for a call.
-use Rattle.std.proofs.Common.{◌≡◌, ◌≢◌, ℕ, List, [], ◌++◌, refl, sym, ap, subst, ◌∙◌, append_assoc}
+use Rattle.std.proofs.Common.{◌≡◌, ◌≢◌, ℕ, List, [], ◌++◌, refl}
 use Rattle.std.proofs.KnownBytes.{Appends-nil, Consumes-nil}
 use Rattle.std.specs.declared.option.Option.{Option}
 use Rattle.std.specs.Io.KnownBytes.{Appends, Consumes}
-use Rattle.io_edge.specs.Feed.{Fed, to_come}
 use Rattle.io_edge.specs.Taken.{AppendsPrefix}
-use Rattle.io_edge.proofs.ToldLemmas.{tells_held, consumes_held}
 use Rattle.spiral_words.specs.SpiralStatus.Status.{IsDefined}
 use Rattle.spiral_words.specs.declared.spiral_status.status.Status.{Status}
 use Rattle.spiral_words.specs.declared.spiral_status.status.Status.TheVariants.{ReadFault, WriteFault, NoMemory}
@@ -39,7 +37,7 @@ pub cut_meets : (outcomes : Outcomes) (read left text : List ℕ) (out out' : Op
 cut_meets outcomes read left text out out' right wrote = record {
   answer = λ d. absurd (d.write refl);
   read_fault = λ e. absurd (cc);
-  write_fault = λ _. (read, [], text, refl, right, wrote);
+  write_fault = λ _. (read, text, refl, right, wrote);
 }
 
 -- nothing was read
@@ -62,35 +60,3 @@ told_nothing outcomes before after out read consumed = record {
 pub unread_nothing : (outcomes : Outcomes) (before out : Option (List ℕ))
     → SourceMeets outcomes before before out out NoMemory
 unread_nothing outcomes before out = told_nothing outcomes before before out [] (Consumes-nil before)
-
--- what the feed holds is left for the feed, and was read from the source; where a read failed, it holds nothing
-held_meets : (outcomes : Outcomes) (bytes held left : List ℕ) (out out' : Option (List ℕ)) (status : Status)
-    → (status ≡ ReadFault → held ≡ []) → Meets outcomes bytes (held ++ left) out out' status
-    → Meets outcomes bytes left out out' status
-held_meets outcomes bytes held left out out' status empty m = record {
-  answer = m.answer;
-  read_fault = λ e. (subst (λ (l : List ℕ). Meets outcomes bytes (l ++ left) out out' status) (empty e) m).read_fault e;
-  write_fault = λ e.
-      let found = m.write_fault e in
-      let same : found.1 ++ (held ++ left) ≡ (found.1 ++ held) ++ left = sym (append_assoc found.1 held left) in (
-        found.0,
-        found.1 ++ held,
-        found.2,
-        found.3 ∙ ap (λ l. found.0 ++ l) same,
-        subst (λ l. outcomes.cut found.0 l found.2) same found.4,
-        found.5,
-      );
-}
-
-pub meets_by_source : (outcomes : Outcomes) (before : Option (List ℕ)) (feed : Fed) (left out out' : Option (List ℕ))
-    (status : Status)
-    → (status ≡ ReadFault → feed.held ≡ []) → SourceMeets outcomes before (to_come feed left) out out' status
-    → SourceMeets outcomes before left out out' status
-meets_by_source outcomes before feed left out out' status empty p = record {
-  read = p.read ++ feed.held;
-  consumed = consumes_held before left p.read feed.held p.consumed;
-  meets = λ rest tells.
-      subst (λ (b : List ℕ). Meets outcomes b rest out out' status) (sym (append_assoc p.read feed.held rest))
-      (held_meets outcomes (p.read ++ (feed.held ++ rest)) feed.held rest out out' status empty
-      (p.meets (feed.held ++ rest) (tells_held feed.held left rest tells)));
-}

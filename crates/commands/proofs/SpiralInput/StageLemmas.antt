@@ -32,7 +32,7 @@ pub stage_meets : {A : Type 0} (stage : Stage A) (work : A → Work) (room : ℕ
 stage_meets stage work room value bytes left out out' status gives p = record {
   answer = λ d. let found = p.answer d in (found.0, inr (value, gives, found.1), found.2);
   read_fault = λ e. let found = p.read_fault e in (found.0, found.1, found.2, (value, gives, found.3), found.4);
-  write_fault = λ e. let found = p.write_fault e in (found.0, found.1, found.2, found.3, (value, gives, found.4), found.5);
+  write_fault = λ e. let found = p.write_fault e in (found.0, found.1, found.2, (value, gives, found.3), found.4);
 }
 
 pub stage_told : {A : Type 0} (stage : Stage A) (work : A → Work) (room : ℕ) (value : A)

@@ -19,7 +19,7 @@ pub meets_within : (a b : Outcomes) (bytes left : List ℕ) (before after : Opti
 meets_within a b bytes left before after s w m = record {
   answer = λ defined. let p = m.answer defined in (p.0, w.answer bytes s p.0 p.1, p.2);
   read_fault = λ fault. let p = m.read_fault fault in (p.0, p.1, p.2, w.broken p.0 (left ≡ []) p.1 p.3, p.4);
-  write_fault = λ fault. let p = m.write_fault fault in (p.0, p.1, p.2, p.3, w.cut p.0 (p.1 ++ left) p.2 p.4, p.5);
+  write_fault = λ fault. let p = m.write_fault fault in (p.0, p.1, p.2, w.cut p.0 left p.1 p.3, p.4);
 }
 
 pub told_within : (a b : Outcomes) (before left out out' : Option (List ℕ)) (s : Status) → Within a b

@@ -17,21 +17,20 @@ pub record Outcomes : Type 1 where
   -- the text up to a failed write, by the bytes that were read and those that are left
   pub cut : List ℕ → List ℕ → List ℕ → Type 0
 
--- status and output are right, by all the bytes of the input and by those that are left of them
+-- status and output are right, by all the bytes that were to come and by those that are left of them
 pub record Meets (outcomes : Outcomes) (bytes left : List ℕ) (before after : Option (List ℕ))
     (status : Status) : Type 0 where
   -- where nothing failed, they are an answer
   pub answer : IsDefined status → (text : List ℕ) × outcomes.answer bytes status text × Appends before after text
-  -- a read failed: the bytes that the source gave show no fault, and the output took the whole text up to there
+  -- a read failed: the bytes that came show no fault, and the output took the whole text up to there
   pub read_fault : status ≡ ReadFault → (read text : List ℕ) × (bytes ≡ read ++ left)
       × outcomes.broken read (left ≡ []) text × Appends before after text
-  -- a write failed at a text, of which the output took a front. These bytes were read, the next are held, and the
-  -- source has the rest
-  pub write_fault : status ≡ WriteFault → (read held text : List ℕ) × (bytes ≡ read ++ (held ++ left))
-      × outcomes.cut read (held ++ left) text × AppendsPrefix before after text
+  -- a write failed at a text, of which the output took a front
+  pub write_fault : status ≡ WriteFault → (read text : List ℕ) × (bytes ≡ read ++ left)
+      × outcomes.cut read left text × AppendsPrefix before after text
 
--- The source gave these bytes, and with all that it may have left status and output are right. One that does not tell
--- its bytes may have any left
+-- These bytes came, and with all that may be left status and output are right. A source that does not tell its bytes
+-- may have any left
 pub record SourceMeets (outcomes : Outcomes) (source source' before after : Option (List ℕ))
     (status : Status) : Type 0 where
   pub read : List ℕ

@@ -27,7 +27,7 @@ use Rattle.code_gen.proofs.WholePrograms.ReadyPrograms.{ready_can_program}
 use Rattle.spl_ast.specs.BalancedSums.Halves.{balanced}
 use Rattle.spl_ast.proofs.BalancedSums.Sums.{same_matrix}
 use Rattle.generate.proofs.FormulaPasses.Programs.{formulas_are_ready, formulas_compute}
-use Rattle.generate.proofs.Performed.{any-turns}
+use Rattle.generate.proofs.Performed.{among-leftovers, any-turns}
 use Rattle.generate.proofs.FormulaCode.Balanced.{balanced_alike, balanced_shaped}
 use Rattle.generate.proofs.FormulaCode.Regrouped.{few_parts, same_code}
 
@@ -66,6 +66,10 @@ is_code m f p large small shaped few performs =
       apart = performs.apart;
       product = λ x turns vector _.
           any-turns (plain_machine (size_of f) m) (formula_merged m f) p performs x turns ∙ computes.results x vector;
+      again = λ left x turns are vector _.
+          among-leftovers (plain_machine (size_of f) m) (formula_merged m f) p performs left x turns are vector.size
+          ∙ any-turns (plain_machine (size_of f) m) (formula_merged m f) p performs x turns ∙ computes.results x vector;
+      fresh = performs.fresh;
       operations = computes.cost 1 (omega arith);
     }
 

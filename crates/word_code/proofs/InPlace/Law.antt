@@ -29,11 +29,11 @@ use Rattle.word_code.proofs.InPlace.Standing.{stands_first, stands_read}
 
 -- the only phase of the only processor may go its routes
 pub record Goes (p : PlainProgram) (phases : List PlainBody) : Type 0 where
-  body : PlainBody
-  only : phases ≡ body ∷ []
+  pub body : PlainBody
+  pub only : phases ≡ body ∷ []
   pub alone : p.procs ≡ 1
-  may : may_go p body (chosen body) ≡ true
-  routes : routes_of p phases ≡ chosen body
+  pub may : may_go p body (chosen body) ≡ true
+  pub routes : routes_of p phases ≡ chosen body
 
 goes_by : (p : PlainProgram) (body : PlainBody) (test : Bool) →
     ((p.procs == 1) && ((are_loops body && are_full body) && may_go p body (chosen body))) ≡ test →
@@ -61,7 +61,7 @@ no_routes z p =
 
 -- One phase of one processor
 
-one_list : (w : PlainWordProgram) (body : WordBody) (bodies : List WordBody) (procs : ℕ) → bodies ≡ body ∷ [] →
+pub one_list : (w : PlainWordProgram) (body : WordBody) (bodies : List WordBody) (procs : ℕ) → bodies ≡ body ∷ [] →
     procs ≡ 1 →
     map (λ body. map (λ q. word_actions_of_body w body [] q) (range_with_len 0 procs)) bodies
     ≡ (word_actions_of_body w body [] 0 ∷ []) ∷ []
@@ -70,7 +70,7 @@ one_list w body bodies procs only alone =
     ∙ ap (map (λ body. map (λ q. word_actions_of_body w body [] q) (range_with_len 0 1))) only
 
 -- the only phase of the only processor on words
-one_phase : (z : Laziness) (h : Header) (procs : ℕ) (phases : List PlainBody) (body : PlainBody) → phases ≡ body ∷ [] →
+pub one_phase : (z : Laziness) (h : Header) (procs : ℕ) (phases : List PlainBody) (body : PlainBody) → phases ≡ body ∷ [] →
     procs ≡ 1 →
     quick_phases z h procs phases ≡ (quick_alone z h body (loosest z h)).body ∷ []
 one_phase z h procs phases body only alone = ap (quick_phases z h procs) only ∙ ap (λ n. quick_phases z h n (body ∷ [])) alone
