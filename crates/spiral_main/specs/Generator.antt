@@ -2,7 +2,6 @@
 use Rattle.std.specs.Prelude.{◌≡◌, ◌↔◌, ℕ, ◌^◌, ◌<◌, ◌≤◌, true, false, List, [], Ok}
 use Rattle.std.specs.declared.option.Option.{Option}
 use Rattle.c_print.specs.CText.{c_text_of}
-use Rattle.commands.specs.ConvolutionCommands.Convolver.{IsConvolver}
 use Rattle.commands.specs.ConvolutionCommands.Convolving.{IsConvRequest}
 use Rattle.commands.specs.ConvolutionCommands.ConvPlanned.{IsConvPlanned}
 use Rattle.commands.specs.Equations.Apply.{apply_outcomes}
@@ -19,7 +18,6 @@ use Rattle.commands.specs.Equations.Plan.{plan_outcomes}
 use Rattle.commands.specs.Equations.Run.{run_outcomes}
 use Rattle.commands.specs.Equations.Sample.{sample_outcomes}
 use Rattle.commands.specs.Equations.Works.{all, by_first, mapping, the_first, writing}
-use Rattle.commands.specs.FormulaCommands.Code.{IsCodeOf}
 use Rattle.commands.specs.Planned.{IsPlanned}
 use Rattle.commands.specs.SpiralInput.Orders.{procs_in}
 use Rattle.commands.specs.SpiralInput.Outcomes.{Outcomes}
@@ -31,6 +29,7 @@ use Rattle.request_text.specs.Schedule.{Plan as Turns}
 use Rattle.request_text.specs.Turns.{named}
 use Rattle.spiral_main.specs.Good.{trace_of}
 use Rattle.spiral_main.specs.Outcome.{AccountsFor, CallMeetsFor, IsOutcome, outcomes_for}
+use Rattle.spiral_main.specs.FormulaTheorem.{IsRightCode, IsRightConvolver}
 use Rattle.spiral_main.specs.Theorem.{IsRightProgram}
 use Rattle.spiral_words.specs.Asked.{IsAsked}
 use Rattle.spiral_words.specs.declared.Command.{Command}
@@ -50,10 +49,10 @@ pub record Generator : Type 0 where
   pub right : (r : Request) (t : Breakdown) → IsInRange r → IsPlanned r (Ok t) → IsRightProgram r t (code r t)
   pub convolver : Request → Breakdown → List ℕ → PlainProgram
   pub convolves : (r : Request) (t : Breakdown) (h : List ℕ) → IsConvRequest r → IsConvPlanned r (Ok t) →
-      IsConvolver r t h (convolver r t h)
+      IsRightConvolver r t h (convolver r t h)
   pub formula : ℕ → Formula → PlainProgram
   pub computes : (m : ℕ) (f : Formula) → 2 ≤ m → m < 2 ^ 62 → IsShaped f → parts_of f ≤ 65536 →
-      IsCodeOf m f (formula m f)
+      IsRightCode m f (formula m f)
 
 -- ---- what is right for the commands that write a program
 
