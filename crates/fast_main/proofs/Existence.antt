@@ -10,7 +10,7 @@ use Rattle.clap.specs.Walk.{is_empty}
 use Rattle.code_check.proofs.Decided.{decided}
 use Rattle.code_check.proofs.Whole.{passed_fits}
 use Rattle.code_check.specs.Refusals.{PassesCheck, action_limit}
-use Rattle.data_stream.specs.InputRest.Part.{first_part}
+use Rattle.data_stream.specs.Parts.Part.{first_part}
 use Rattle.icode.specs.Limits.{IsWithinLimits}
 use Rattle.icode.specs.Plain.{PlainProgram}
 use Rattle.listing_text.specs.Lines.{read_lines, Judges}

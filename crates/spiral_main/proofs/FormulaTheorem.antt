@@ -10,7 +10,7 @@ use Rattle.commands.specs.Equations.Formulas.{formed}
 use Rattle.commands.specs.Equations.Front.{line}
 use Rattle.commands.specs.FormulaCommands.Letters.{program_for}
 use Rattle.commands.specs.Good.{IsVector}
-use Rattle.commands.specs.SpiralInput.Commands.{admitted, first_stranger}
+use Rattle.commands.specs.Input.Commands.{admitted, first_stranger}
 use Rattle.commands.proofs.FormulaCommands.Programs.{formula_programs_are_code}
 use Rattle.commands.proofs.FormulaCommands.Shaped.{written_few, written_shaped}
 use Rattle.commands.proofs.GoodPrograms.{conv_programs_convolve}
@@ -18,7 +18,7 @@ use Rattle.listing_text.specs.Listing.{listing_of}
 use Rattle.matrix_meaning.specs.Convolution.{convolution}
 use Rattle.matrix_meaning.specs.declared.Request.{Request}
 use Rattle.request_text.proofs.Judged.{conv_in_range}
-use Rattle.request_text.specs.Turns.{named}
+use Rattle.schedules.specs.Turns.{named}
 use Rattle.runs.specs.Stream.{lines}
 use Rattle.sigma_spl.specs.Good as vector
 use Rattle.spiral_main.specs.FormulaTheorem.{FormulasAreRight, IsRightCode, IsRightConvolver, IsRightFormulaAnswer}
@@ -28,10 +28,10 @@ use Rattle.spiral_main.specs.RightFront.{vectors_behind}
 use Rattle.spiral_main.proofs.Accounts.{told_input}
 use Rattle.spiral_main.proofs.RightFront.{applied_is_right, convolved_is_right, convolver_is_first, listing_is_right}
 use Rattle.spiral_main.proofs.Theorem.{leaves_asked, lists, what_was_read, writes}
-use Rattle.spiral_words.specs.SpiralStatus.Status.{IsDefined}
+use Rattle.spiral_words.specs.Statuses.Status.{IsDefined}
 use Rattle.spiral_words.specs.declared.Command.TheVariants as command
 use Rattle.spiral_words.specs.declared.FormulaCommand.TheVariants as formula_command
-use Rattle.spiral_words.specs.declared.spiral_status.status.Status.{Status}
+use Rattle.spiral_words.specs.declared.statuses.status.Status.{Status}
 use Rattle.spl_ast.specs.Formula.{Formula, parts_of, size_of}
 use Rattle.spl_ast.specs.Meaning as formulas
 use Rattle.spl_ast.specs.Shape.{IsShaped}

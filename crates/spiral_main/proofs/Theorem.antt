@@ -7,7 +7,7 @@ use Rattle.commands.specs.Equations.Front.{line}
 use Rattle.commands.specs.Equations.Orders.{Planned}
 use Rattle.commands.specs.Good.{IsVector}
 use Rattle.commands.specs.Planned.{IsPlanned}
-use Rattle.commands.specs.SpiralInput.Orders.{procs_in}
+use Rattle.commands.specs.Input.Orders.{procs_in}
 use Rattle.commands.proofs.GoodPrograms.{programs_are_good}
 use Rattle.commands.proofs.ListingCommands.OneExecution.{one_listing}
 use Rattle.icode.proofs.BufferedRuns.{memory_of_buffered}
@@ -25,12 +25,12 @@ use Rattle.matrix_meaning.specs.Asked.{asked_of}
 use Rattle.matrix_meaning.specs.Valid.{IsInRange}
 use Rattle.matrix_meaning.specs.declared.Request.{Request}
 use Rattle.runs.specs.Stream.{lines}
-use Rattle.spiral_words.specs.SpiralStatus.Status.{IsDefined}
+use Rattle.spiral_words.specs.Statuses.Status.{IsDefined}
 use Rattle.spiral_words.specs.declared.Command.TheVariants as command
 use Rattle.spiral_words.specs.declared.Document.TheVariants as document
 use Rattle.spiral_words.specs.declared.RequestCommand.TheVariants as request
-use Rattle.spiral_words.specs.declared.spiral_status.status.Status.{Status}
-use Rattle.spiral_words.specs.declared.spiral_status.status.Status.TheVariants.{Success}
+use Rattle.spiral_words.specs.declared.statuses.status.Status.{Status}
+use Rattle.spiral_words.specs.declared.statuses.status.Status.TheVariants.{Success}
 use Rattle.spiral_main.specs.Outcome.{Accounts, AccountsFor, IsOutcome}
 use Rattle.spiral_main.specs.RightFront.{IsRightLine, request_vectors}
 use Rattle.spiral_main.specs.Theorem.{IsRightAnswer, IsRightProgram, IsRightRun, Leaves, Lists, OfWhatWasRead}

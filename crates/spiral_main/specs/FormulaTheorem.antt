@@ -16,14 +16,14 @@ use Rattle.commands.specs.Equations.Front.{line}
 use Rattle.commands.specs.Equations.Orders.{Planned}
 use Rattle.commands.specs.FormulaCommands.Code as code
 use Rattle.commands.specs.Good.{HasHeader, IsVector}
-use Rattle.commands.specs.SpiralInput.Commands.{first_stranger}
+use Rattle.commands.specs.Input.Commands.{first_stranger}
 use Rattle.icode.specs.Actions.{plain_code}
 use Rattle.icode.specs.Machine.{weighted, whole_counts}
 use Rattle.icode.specs.Plain.{PlainProgram}
 use Rattle.matrix_meaning.specs.Convolution.{convolution}
 use Rattle.matrix_meaning.specs.declared.Request.{Request}
-use Rattle.request_text.specs.Schedule.{Plan as Turns}
-use Rattle.request_text.specs.Turns.{named}
+use Rattle.schedules.specs.Schedule.{Plan as Turns}
+use Rattle.schedules.specs.Turns.{named}
 use Rattle.runs.specs.Stream.{lines}
 use Rattle.sigma_lower.specs.Operations.{operations}
 use Rattle.sigma_spl.specs.Good as vector
@@ -34,8 +34,8 @@ use Rattle.spiral_main.specs.Outcome.{AccountsFor}
 use Rattle.spiral_main.specs.Theorem.{Leaves, Lists, OfWhatWasRead, Writes}
 use Rattle.spiral_words.specs.Asked.{AsksCode, AsksModulus, AsksSchedule}
 use Rattle.spiral_words.specs.CommandLine.{Names, Options}
-use Rattle.spiral_words.specs.SpiralStatus.Status.{IsDefined}
-use Rattle.spiral_words.specs.declared.spiral_status.status.Status.{Status}
+use Rattle.spiral_words.specs.Statuses.Status.{IsDefined}
+use Rattle.spiral_words.specs.declared.statuses.status.Status.{Status}
 use Rattle.spl_ast.specs.Formula.{Formula, size_of}
 use Rattle.spl_ast.specs.Meaning as formulas
 use Rattle.tree_model.specs.Breakdown.{Breakdown}

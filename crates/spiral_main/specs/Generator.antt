@@ -19,14 +19,14 @@ use Rattle.commands.specs.Equations.Run.{run_outcomes}
 use Rattle.commands.specs.Equations.Sample.{sample_outcomes}
 use Rattle.commands.specs.Equations.Works.{all, by_first, mapping, the_first, writing}
 use Rattle.commands.specs.Planned.{IsPlanned}
-use Rattle.commands.specs.SpiralInput.Orders.{procs_in}
-use Rattle.commands.specs.SpiralInput.Outcomes.{Outcomes}
+use Rattle.commands.specs.Input.Orders.{procs_in}
+use Rattle.commands.specs.Input.Outcomes.{Outcomes}
 use Rattle.icode.specs.Plain.{PlainProgram}
 use Rattle.listing_text.specs.Listing.{listing_of}
 use Rattle.matrix_meaning.specs.Valid.{IsInRange}
 use Rattle.matrix_meaning.specs.declared.Request.{Request}
-use Rattle.request_text.specs.Schedule.{Plan as Turns}
-use Rattle.request_text.specs.Turns.{named}
+use Rattle.schedules.specs.Schedule.{Plan as Turns}
+use Rattle.schedules.specs.Turns.{named}
 use Rattle.spiral_main.specs.Good.{trace_of}
 use Rattle.spiral_main.specs.Outcome.{AccountsFor, CallMeetsFor, IsOutcome, outcomes_for}
 use Rattle.spiral_main.specs.FormulaTheorem.{IsRightCode, IsRightConvolver}
@@ -38,7 +38,7 @@ use Rattle.spiral_words.specs.declared.Document.TheVariants as document
 use Rattle.spiral_words.specs.declared.FormulaCommand.TheVariants.{Compile, Apply}
 use Rattle.spiral_words.specs.declared.Order.{Order}
 use Rattle.spiral_words.specs.declared.RequestCommand.TheVariants.{Writes, Runs, Traces, Judges}
-use Rattle.spiral_words.specs.declared.spiral_status.status.Status.{Status}
+use Rattle.spiral_words.specs.declared.statuses.status.Status.{Status}
 use Rattle.spl_ast.specs.Formula.{Formula, parts_of}
 use Rattle.spl_ast.specs.Shape.{IsShaped}
 use Rattle.tree_model.specs.Breakdown.{Breakdown}

@@ -27,7 +27,7 @@ use Rattle.std.specs.Io.KnownBytes.{Appends, Consumes}
 use Rattle.commands.specs.Equations.Front.{line}
 use Rattle.commands.specs.Equations.Orders.{Planned}
 use Rattle.commands.specs.Good.{HasHeader, IsVector}
-use Rattle.commands.specs.SpiralInput.Orders.{procs_in}
+use Rattle.commands.specs.Input.Orders.{procs_in}
 use Rattle.icode.specs.Actions.{PlainFits, plain_code}
 use Rattle.icode.specs.Buffers.{buffered_results}
 use Rattle.icode.specs.Fresh.{IsFresh}
@@ -46,10 +46,10 @@ use Rattle.spiral_main.specs.Outcome.{AccountsFor}
 use Rattle.spiral_main.specs.RightFront.{HasWholeVectors, IsRightLine, request_vectors}
 use Rattle.spiral_words.specs.Asked.{AsksOrder}
 use Rattle.spiral_words.specs.CommandLine.{Names, Options}
-use Rattle.spiral_words.specs.SpiralStatus.Status.{IsDefined}
+use Rattle.spiral_words.specs.Statuses.Status.{IsDefined}
 use Rattle.spiral_words.specs.declared.Order.{Order}
-use Rattle.spiral_words.specs.declared.spiral_status.status.Status.{Status}
-use Rattle.spiral_words.specs.declared.spiral_status.status.Status.TheVariants.{Success}
+use Rattle.spiral_words.specs.declared.statuses.status.Status.{Status}
+use Rattle.spiral_words.specs.declared.statuses.status.Status.TheVariants.{Success}
 use Rattle.tree_model.specs.Breakdown.{Breakdown}
 use Rattle.tree_model.specs.Chosen.{IsWholeTree, whole_cost}
 use Rattle.tree_model.specs.WholePasses.{whole_loads, whole_stores}

@@ -3,13 +3,13 @@ ghost use Rattle.std.specs.Prelude.{◌≡◌, [], map, string_bytes};
 ghost use Rattle.std.specs.Io.KnownBytes.{Appends};
 ghost use Rattle.io_edge.specs.Told.{IsOver};
 ghost use Rattle.io_edge.specs.Faults.{Reports};
-ghost use Rattle.commands.specs.SpiralInput.Commands.{AskForRest, AskForCommand, AreJudged};
+ghost use Rattle.commands.specs.Input.Commands.{AskForRest, AskForCommand, AreJudged};
 ghost use Rattle.spiral_main.specs.Outcome.{AccountsFor, Notes};
 ghost use Rattle.spiral_main.specs.FormulaTheorem.{IsRightFormulaRun};
 ghost use Rattle.spiral_main.specs.Theorem.{IsRightRun};
-ghost use Rattle.spiral_words.specs.SpiralStatus.Status.{IsDefined};
-ghost use Rattle.commands.specs.SpiralInput.Stage.{status_of};
-ghost use Rattle.spiral_words.specs.SpiralStatus.Status.{note_line};
+ghost use Rattle.spiral_words.specs.Statuses.Status.{IsDefined};
+ghost use Rattle.commands.specs.Input.Stage.{status_of};
+ghost use Rattle.spiral_words.specs.Statuses.Status.{note_line};
 
 use crate::Status;
 use commands::{asked, by_formula, convolve, exec, perform};
