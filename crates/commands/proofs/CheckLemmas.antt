@@ -23,10 +23,10 @@ use Rattle.commands.specs.Equations.Front.{Work, staged}
 use Rattle.commands.specs.Equations.Works.{judging}
 use Rattle.commands.specs.Input.Outcomes.{Meets, SourceMeets}
 use Rattle.commands.proofs.Documents.{generate_refusal}
-use Rattle.commands.proofs.Input.StageLemmas.{stage_refused, stage_told}
+use Rattle.commands.proofs.Inputs.StageLemmas.{stage_refused, stage_told}
 use Rattle.io_edge.proofs.ToldLemmas.{over_left}
-use Rattle.commands.proofs.Input.OutcomeLemmas.{answered_meets, broken_meets, cut_meets, meets_nothing}
-use Rattle.commands.proofs.Input.OutcomeLemmas.{told_nothing}
+use Rattle.commands.proofs.Inputs.OutcomeLemmas.{answered_meets, broken_meets, cut_meets, meets_nothing}
+use Rattle.commands.proofs.Inputs.OutcomeLemmas.{told_nothing}
 
 abbrev pub judges : Request → Work
 judges request = judging (IsVerdict request)

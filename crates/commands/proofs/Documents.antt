@@ -23,8 +23,8 @@ use Rattle.commands.specs.Equations.Front.{staged}
 use Rattle.commands.specs.Programs.{IsProgramFor}
 use Rattle.commands.specs.Input.Outcomes.{Meets}
 use Rattle.commands.specs.Input.Refusals.{IsRefusal}
-use Rattle.commands.proofs.Input.OutcomeLemmas.{answered_meets, cut_meets}
-use Rattle.commands.proofs.Input.StageLemmas.{stage_meets}
+use Rattle.commands.proofs.Inputs.OutcomeLemmas.{answered_meets, cut_meets}
+use Rattle.commands.proofs.Inputs.StageLemmas.{stage_meets}
 
 -- a fault of the making refuses the request
 pub generate_refusal : (fault : GenerateFault) → IsRefusal (status_of_generate fault)

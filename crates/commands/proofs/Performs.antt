@@ -16,8 +16,8 @@ use Rattle.commands.specs.Input.Commands.{procs_named}
 use Rattle.commands.specs.Input.Outcomes.{Outcomes}
 use Rattle.commands.specs.Input.Stage.{◌>>=◌}
 use Rattle.commands.proofs.CheckLemmas.{checking, judges}
-use Rattle.commands.proofs.Input.Nested.{no_unit}
-use Rattle.commands.proofs.Input.Within.{Within, within_then, front_within, front_join}
+use Rattle.commands.proofs.Inputs.Nested.{no_unit}
+use Rattle.commands.proofs.Inputs.Within.{Within, within_then, front_within, front_join}
 
 -- what is right by the line of a request, and then after it
 abbrev pub by_line : RequestCommand → Outcomes

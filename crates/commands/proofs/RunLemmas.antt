@@ -44,9 +44,9 @@ use Rattle.commands.specs.Input.Outcomes.{SourceMeets}
 use Rattle.commands.proofs.Documents.{with_tree}
 use Rattle.commands.proofs.Programs.{IsGoodCode, code_made, good_code, program_modulus, program_procs, program_size}
 use Rattle.commands.proofs.Requests.{limits}
-use Rattle.commands.proofs.Input.DataLemmas.{lines_equal, turns_below}
-use Rattle.commands.proofs.Input.StageLemmas.{stage_told}
-use Rattle.commands.proofs.Input.Within.{told_within}
+use Rattle.commands.proofs.Inputs.DataLemmas.{lines_equal, turns_below}
+use Rattle.commands.proofs.Inputs.StageLemmas.{stage_told}
+use Rattle.commands.proofs.Inputs.Within.{told_within}
 use Rattle.commands.proofs.StreamLemmas.{mapping_within}
 
 -- The program's processors

@@ -30,9 +30,9 @@ use Rattle.commands.specs.OrderText.{order_of, order_text}
 use Rattle.commands.specs.Prepared.{stream_text, stream_work}
 use Rattle.commands.specs.Input.Outcomes.{SourceMeets}
 use Rattle.commands.specs.declared.streams.Prepared.{Prepared}
-use Rattle.commands.proofs.Input.DataLemmas.{streams_told}
-use Rattle.commands.proofs.Input.OutcomeLemmas.{cut_meets, unread_meets}
-use Rattle.commands.proofs.Input.Within.{Within}
+use Rattle.commands.proofs.Inputs.DataLemmas.{streams_told}
+use Rattle.commands.proofs.Inputs.OutcomeLemmas.{cut_meets, unread_meets}
+use Rattle.commands.proofs.Inputs.Within.{Within}
 
 -- The front is not written whole
 

@@ -12,7 +12,7 @@ use Rattle.fast_main.specs.declared.fast_words.options.Refusal.TheVariants as wo
 use Rattle.data_stream.specs.declared.parts.RestFault.{RestFault}
 use Rattle.data_stream.specs.declared.parts.RestFault.TheVariants as rest
 use Rattle.data_stream.specs.Parts.Part.{first_part, IsWholePart, GivesPart}
-use Rattle.data_stream.proofs.Parts.PartLemmas.{still_ended}
+use Rattle.data_stream.proofs.TwoParts.PartLemmas.{still_ended}
 use Rattle.io_edge.specs.Feed.{Fed, to_come}
 use Rattle.io_edge.specs.Taken.{AppendsPrefix}
 use Rattle.fast_main.specs.declared.status.Status.{Status}

@@ -16,8 +16,8 @@ use Rattle.commands.specs.Equations.Commands.{outcomes_of}
 use Rattle.commands.specs.Input.Commands.{commanded}
 use Rattle.commands.specs.Input.Outcomes.{Meets, Outcomes, SourceMeets}
 use Rattle.commands.specs.Input.Refusals.{IsEarly}
-use Rattle.commands.proofs.Input.OutcomeLemmas.{meets_nothing, unread_meets, unread_nothing}
-use Rattle.commands.proofs.Input.Within.{Within, meets_within, told_within}
+use Rattle.commands.proofs.Inputs.OutcomeLemmas.{meets_nothing, unread_meets, unread_nothing}
+use Rattle.commands.proofs.Inputs.Within.{Within, meets_within, told_within}
 use Rattle.spiral_main.specs.Outcome.{Accounts, AccountsFor, CallMeetsFor, call_outcomes}
 
 -- what is right for the command that the words ask for is right for the call

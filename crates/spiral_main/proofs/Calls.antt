@@ -6,7 +6,7 @@ use Rattle.spiral_words.proofs.OneCommand.{asked_once}
 use Rattle.spiral_words.specs.declared.statuses.status.Status.{Status}
 use Rattle.commands.specs.Equations.Commands.{outcomes_of}
 use Rattle.commands.specs.Input.Commands.{commanded}
-use Rattle.commands.proofs.Input.Stages.{IsDecided, done, ended, answer_for, of_answers}
+use Rattle.commands.proofs.Inputs.Stages.{IsDecided, done, ended, answer_for, of_answers}
 use Rattle.spiral_main.specs.Outcome.{IsOutcome}
 use Rattle.spiral_main.proofs.OneAnswer.{command_one}
 

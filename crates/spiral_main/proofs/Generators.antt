@@ -17,7 +17,7 @@ use Rattle.commands.specs.Equations.Sample.{sample_outcomes}
 use Rattle.commands.specs.Equations.Trace.{trace_outcomes}
 use Rattle.commands.specs.FormulaCommands.Letters.{program_for}
 use Rattle.commands.specs.Input.Outcomes.{Outcomes}
-use Rattle.commands.proofs.Input.Within.{Within}
+use Rattle.commands.proofs.Inputs.Within.{Within}
 use Rattle.spiral_words.specs.declared.Command.{Command}
 use Rattle.spiral_words.specs.declared.Command.TheVariants.{ByRequest, ByFormula, ByListing, ByList}
 use Rattle.spiral_words.specs.declared.Document.TheVariants as document

@@ -33,7 +33,7 @@ use Rattle.commands.proofs.ConvolutionCommands.OneConvolution.{conv_planned_deci
 use Rattle.commands.proofs.ConvolutionCommands.OneConvolution.{same_request}
 use Rattle.commands.proofs.FormulaCommands.OneFormula.{formed_decided, written_decided}
 use Rattle.commands.proofs.ListingCommands.OneExecution.{loaded_decided}
-use Rattle.commands.proofs.Input.Stages.{IsDecided, bind_decided, done, ended, given_decided}
+use Rattle.commands.proofs.Inputs.Stages.{IsDecided, bind_decided, done, ended, given_decided}
 use Rattle.commands.specs.Equations.Apply.{apply_work}
 use Rattle.commands.specs.Equations.Check.{fitting}
 use Rattle.commands.specs.Equations.Commands.{outcomes_by_formula, outcomes_of}

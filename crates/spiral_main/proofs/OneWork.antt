@@ -7,7 +7,7 @@ use Rattle.commands.specs.Equations.Front.{Front, Work, by_front, ordered, room_
 use Rattle.commands.specs.Equations.Works.{Wants, by_first, judging, mapping, writing}
 use Rattle.commands.specs.Input.Outcomes.{Outcomes}
 use Rattle.commands.specs.Input.Stage.{Stage, given}
-use Rattle.commands.proofs.Input.Stages.{IsDecided, bind_decided, given_decided, of_answers}
+use Rattle.commands.proofs.Inputs.Stages.{IsDecided, bind_decided, given_decided, of_answers}
 
 pub record HasOne (outcomes : Outcomes) : Type 0 where
   pub status : (bytes : List ℕ) (a b : Status) (s t : List ℕ) → outcomes.answer bytes a s → outcomes.answer bytes b t →

@@ -47,7 +47,7 @@ use Rattle.commands.specs.Input.Stage.{Stage, ◌>>=◌}
 use Rattle.commands.proofs.ConvolutionCommands.OneConvolution.{conv_planned_decided}
 use Rattle.commands.proofs.FormulaCommands.OneFormula.{formed_decided, written_decided}
 use Rattle.commands.proofs.ListingCommands.OneExecution.{loaded_decided}
-use Rattle.commands.proofs.Input.Stages.{IsDecided, answer_for}
+use Rattle.commands.proofs.Inputs.Stages.{IsDecided, answer_for}
 use Rattle.spiral_main.specs.Outcome.{Accounts, IsOutcome}
 use Rattle.spiral_main.specs.Right.{AreRightData, AreRightVectors, BeginWithList, HasBudgetFor, IsRightCall}
 use Rattle.spiral_main.specs.Right.{IsRightCertificate, IsRightRest, Succeeds, formula_for}

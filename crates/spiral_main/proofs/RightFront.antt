@@ -36,7 +36,7 @@ use Rattle.commands.specs.Equations.Convolve.{convolver_outcomes, convolver_work
 use Rattle.commands.specs.Equations.Works.{a_first, all, status_by, the_first, writing, mapping}
 use Rattle.commands.specs.Equations.Orders.{Planned, planned, turned}
 use Rattle.commands.specs.Equations.Apply.{apply_outcomes, apply_work}
-use Rattle.commands.proofs.Input.FrontLemmas.{front_short}
+use Rattle.commands.proofs.Inputs.FrontLemmas.{front_short}
 use Rattle.spiral_main.specs.Outcome.{IsOutcome, Accounts}
 use Rattle.spiral_main.specs.RightFront.{AreWholeVectors, HasWholeVectors, IsRightConvLine, IsRightLine}
 use Rattle.spiral_main.specs.RightFront.{request_vectors, vectors_behind}

@@ -2,7 +2,7 @@
 use Rattle.std.proofs.Common.{◌≡◌, ◌≤◌, ℕ, Bool, true, false, List, None, Ok, Err, Result, length, nat_le, cond}
 use Rattle.std.proofs.Common.{refl, sym, subst, arith}
 use Rattle.std.proofs.lemmas.Grind.{common_steps}
-use Rattle.commands.proofs.Input.Stages.{admitted_same, done, done_ended, done_same}
+use Rattle.commands.proofs.Inputs.Stages.{admitted_same, done, done_ended, done_same}
 use Rattle.commands.specs.ConvolutionCommands.ConvPlanned.{IsConvPlanned}
 use Rattle.commands.specs.Equations.Convolutions.{conv_planned, conv_spelt}
 use Rattle.commands.specs.Equations.Formulas.{written}

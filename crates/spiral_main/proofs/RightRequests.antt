@@ -18,8 +18,8 @@ use Rattle.matrix_meaning.proofs.Roots.{HasItsRoot}
 use Rattle.plan_search.proofs.WholeChosen.{divides_plain, whole_divides, whole_exists, whole_is_least, whole_least_once}
 use Rattle.commands.specs.Planned.{IsPlanned, IsRooted}
 use Rattle.commands.proofs.Documents.{with_tree}
-use Rattle.commands.proofs.Input.Nested.{joined, no_unit}
-use Rattle.commands.proofs.Input.Within.{ordered_map}
+use Rattle.commands.proofs.Inputs.Nested.{joined, no_unit}
+use Rattle.commands.proofs.Inputs.Within.{ordered_map}
 use Rattle.commands.specs.Equations.Check.{fitting}
 use Rattle.commands.specs.Equations.Convolutions.{conv_chosen, conv_planned, conv_spelt}
 use Rattle.commands.specs.Equations.Front.{line, ordered, taken_from}

@@ -41,7 +41,7 @@ use Rattle.commands.proofs.ConvolutionCommands.Existence.{conv_planned_has}
 use Rattle.commands.proofs.Existence.{plan_exists}
 use Rattle.commands.proofs.FormulaCommands.Written.{formula_written}
 use Rattle.commands.proofs.ListingCommands.Existence.{loaded_has}
-use Rattle.commands.proofs.Input.Stages.{HasAnswer, both_have, given_has}
+use Rattle.commands.proofs.Inputs.Stages.{HasAnswer, both_have, given_has}
 use Rattle.commands.specs.Checked.{certificate_limit, status_of_verdict, verdict_text}
 use Rattle.commands.specs.Emission.Whole.{conv_emission}
 use Rattle.commands.specs.Equations.Apply.{apply_work}

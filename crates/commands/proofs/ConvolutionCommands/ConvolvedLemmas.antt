@@ -45,13 +45,13 @@ use Rattle.commands.specs.Input.Refusals.{IsRefusal}
 use Rattle.commands.specs.Input.Stage.{◌>>=◌}
 use Rattle.commands.proofs.Documents.{with_tree}
 use Rattle.io_edge.proofs.ToldLemmas.{over_left}
-use Rattle.commands.proofs.Input.DataLemmas.{fine_by, reads_vectors, lines_equal, run_answers, run_meets}
-use Rattle.commands.proofs.Input.DataLemmas.{turns_below}
-use Rattle.commands.proofs.Input.OutcomeLemmas.{answered_meets, cut_meets}
-use Rattle.commands.proofs.Input.StatusLemmas.{failed}
+use Rattle.commands.proofs.Inputs.DataLemmas.{fine_by, reads_vectors, lines_equal, run_answers, run_meets}
+use Rattle.commands.proofs.Inputs.DataLemmas.{turns_below}
+use Rattle.commands.proofs.Inputs.OutcomeLemmas.{answered_meets, cut_meets}
+use Rattle.commands.proofs.Inputs.StatusLemmas.{failed}
 use Rattle.runs.proofs.StreamLemmas.{reads_more}
-use Rattle.commands.proofs.Input.StageLemmas.{stage_told}
-use Rattle.commands.proofs.Input.Within.{Within, front_join}
+use Rattle.commands.proofs.Inputs.StageLemmas.{stage_told}
+use Rattle.commands.proofs.Inputs.Within.{Within, front_join}
 
 -- Refusals
 

@@ -15,7 +15,7 @@ use Rattle.commands.specs.Equations.Convolutions.{conv_spelt, conv_chosen, conv_
 use Rattle.commands.specs.Equations.Orders.{turned}
 use Rattle.commands.specs.Input.Commands.{admitted, first_stranger}
 use Rattle.commands.specs.Input.Stage.{◌>>=◌}
-use Rattle.commands.proofs.Input.Stages.{HasAnswer, admitted_same, both_have, given_has}
+use Rattle.commands.proofs.Inputs.Stages.{HasAnswer, admitted_same, both_have, given_has}
 
 by_answer : (line : List ℕ) (answer : Result Request RequestFault) → ConvAnswers line answer →
     HasAnswer (conv_spelt line)

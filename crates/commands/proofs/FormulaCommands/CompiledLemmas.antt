@@ -44,11 +44,11 @@ use Rattle.commands.specs.Input.Commands.{admitted, first_stranger}
 use Rattle.commands.specs.Input.Line.{IsWhole}
 use Rattle.commands.specs.Input.Outcomes.{Outcomes, SourceMeets}
 use Rattle.commands.specs.Input.Stage.{Stage}
-use Rattle.commands.proofs.Input.DataLemmas.{lines_equal, turns_below}
-use Rattle.commands.proofs.Input.FrontLemmas.{asks_read_fault, asks_too_long, front_refused, text_told}
-use Rattle.commands.proofs.Input.LineLemmas.{line_is_front}
-use Rattle.commands.proofs.Input.Within.{told_within}
-use Rattle.commands.proofs.Input.OutcomeLemmas.{answered_meets, cut_meets, told_nothing, unread_meets}
+use Rattle.commands.proofs.Inputs.DataLemmas.{lines_equal, turns_below}
+use Rattle.commands.proofs.Inputs.FrontLemmas.{asks_read_fault, asks_too_long, front_refused, text_told}
+use Rattle.commands.proofs.Inputs.LineLemmas.{line_is_front}
+use Rattle.commands.proofs.Inputs.Within.{told_within}
+use Rattle.commands.proofs.Inputs.OutcomeLemmas.{answered_meets, cut_meets, told_nothing, unread_meets}
 use Rattle.commands.proofs.StreamLemmas.{mapping_within}
 
 -- The line

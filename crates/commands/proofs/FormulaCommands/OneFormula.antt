@@ -7,7 +7,7 @@ use Rattle.spl_text.specs.declared.reading.SplFault.TheVariants as spl
 use Rattle.commands.specs.Input.Commands.{admitted, first_stranger}
 use Rattle.commands.specs.Equations.Formulas.{formed, written}
 use Rattle.spiral_words.specs.Statuses.Fault.{status_of_spl}
-use Rattle.commands.proofs.Input.Stages.{IsDecided, done, ended, given_decided, bind_decided}
+use Rattle.commands.proofs.Inputs.Stages.{IsDecided, done, ended, given_decided, bind_decided}
 
 -- A text has one first fault
 

@@ -15,7 +15,7 @@ use Rattle.spiral_words.specs.declared.statuses.status.Status.TheVariants.{Listi
 use Rattle.spiral_words.specs.Statuses.Fault.{status_of_check}
 use Rattle.commands.specs.ListingCommands.Listed.{listed, loaded, verified}
 use Rattle.commands.specs.Input.Commands.{admitted, stranger}
-use Rattle.commands.proofs.Input.Stages.{HasAnswer, both_have, given_has}
+use Rattle.commands.proofs.Inputs.Stages.{HasAnswer, both_have, given_has}
 
 -- ---- the text
 

@@ -20,7 +20,7 @@ use Rattle.data_stream.specs.declared.parts.RestFault.{RestFault}
 use Rattle.data_stream.specs.declared.parts.RestFault.TheVariants as rest_fault
 use Rattle.data_stream.specs.Parts.Part.{ends_line, has_empty_line, behind_empty_line, second_part, IsWholePart}
 use Rattle.data_stream.specs.Parts.Part.{GivesPart}
-use Rattle.data_stream.proofs.Parts.PartLemmas.{still_ended}
+use Rattle.data_stream.proofs.TwoParts.PartLemmas.{still_ended}
 use Rattle.data_stream.specs.Line.{line_of}
 use Rattle.schedules.specs.Schedule.{Plan}
 use Rattle.schedules.specs.Turns.{turns_of}
@@ -36,10 +36,10 @@ use Rattle.commands.specs.Equations.Exec.{exec_outcomes, exec_work}
 use Rattle.commands.specs.Equations.Front.{HasEnded, part}
 use Rattle.commands.specs.Input.Commands.{stranger, admitted}
 use Rattle.commands.specs.Input.Outcomes.{SourceMeets}
-use Rattle.commands.proofs.Input.FrontLemmas.{IsFront, asks_read_fault, asks_too_long, front_refused, text_told}
-use Rattle.commands.proofs.Input.Stages.{admitted_same}
-use Rattle.commands.proofs.Input.Within.{told_within}
-use Rattle.commands.proofs.Input.OutcomeLemmas.{told_nothing}
+use Rattle.commands.proofs.Inputs.FrontLemmas.{IsFront, asks_read_fault, asks_too_long, front_refused, text_told}
+use Rattle.commands.proofs.Inputs.Stages.{admitted_same}
+use Rattle.commands.proofs.Inputs.Within.{told_within}
+use Rattle.commands.proofs.Inputs.OutcomeLemmas.{told_nothing}
 use Rattle.commands.proofs.StreamLemmas.{mapping_within}
 
 -- The front

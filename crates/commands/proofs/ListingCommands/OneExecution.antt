@@ -17,7 +17,7 @@ use Rattle.commands.specs.Input.Commands.{stranger, admitted}
 use Rattle.spiral_words.specs.Statuses.Fault.{status_of_check}
 use Rattle.code_check.specs.Refusals.{action_limit}
 use Rattle.commands.specs.ListingCommands.Listed.{listed, verified, loaded}
-use Rattle.commands.proofs.Input.Stages.{IsDecided, done, ended, given_decided, bind_decided}
+use Rattle.commands.proofs.Inputs.Stages.{IsDecided, done, ended, given_decided, bind_decided}
 
 -- A text is lost in one line
 

@@ -6,9 +6,9 @@ use Rattle.commands.specs.Input.Asking.{spelt}
 use Rattle.commands.specs.Input.Commands.{procs_named}
 use Rattle.commands.specs.Input.Stage.{◌>>=◌, status_of}
 use Rattle.commands.proofs.Performs.{by_line, request_within}
-use Rattle.commands.proofs.Input.FrontLemmas.{front_refused, front_told}
-use Rattle.commands.proofs.Input.LineLemmas.{line_is_front}
-use Rattle.commands.proofs.Input.Within.{told_within}
+use Rattle.commands.proofs.Inputs.FrontLemmas.{front_refused, front_told}
+use Rattle.commands.proofs.Inputs.LineLemmas.{line_is_front}
+use Rattle.commands.proofs.Inputs.Within.{told_within}
 use Rattle.commands.proofs.perform.Goals as goal
 
 pub returns-in_err-request-clause-told : goal.returns-in_err-request-clause-told

@@ -5,7 +5,7 @@ use Rattle.spiral_words.specs.declared.RequestCommand.TheVariants as command
 use Rattle.commands.specs.Equations.Requests.{work_for}
 use Rattle.commands.specs.Input.Stage.{status_of}
 use Rattle.commands.specs.Input.Outcomes.{SourceMeets}
-use Rattle.commands.proofs.Input.OutcomeLemmas.{unread_meets}
+use Rattle.commands.proofs.Inputs.OutcomeLemmas.{unread_meets}
 use Rattle.commands.proofs.perform_for.Goals as goal
 
 pub returns-in-Writes-clause-told : goal.returns-in-Writes-clause-told

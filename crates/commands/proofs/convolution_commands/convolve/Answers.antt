@@ -8,9 +8,9 @@ use Rattle.commands.specs.Equations.Front.{line}
 use Rattle.commands.specs.Equations.Orders.{turned}
 use Rattle.commands.specs.Input.Stage.{◌>>=◌, status_of}
 use Rattle.commands.proofs.ConvolutionCommands.ConvolvedLemmas.{by_line, list_within}
-use Rattle.commands.proofs.Input.FrontLemmas.{front_refused, front_told}
-use Rattle.commands.proofs.Input.LineLemmas.{line_is_front}
-use Rattle.commands.proofs.Input.Within.{told_within}
+use Rattle.commands.proofs.Inputs.FrontLemmas.{front_refused, front_told}
+use Rattle.commands.proofs.Inputs.LineLemmas.{line_is_front}
+use Rattle.commands.proofs.Inputs.Within.{told_within}
 use Rattle.commands.proofs.convolution_commands.convolve.Goals as goal
 
 pub returns-in_err-request-clause-told : goal.returns-in_err-request-clause-told

@@ -12,8 +12,8 @@ use Rattle.commands.specs.ConvolutionCommands.Convolved.{list_work}
 use Rattle.commands.specs.Equations.Convolutions.{conv_chosen}
 use Rattle.commands.proofs.ConvolutionCommands.ConvolvedLemmas.{conv_refused, conv_refusal, convolves_lacking}
 use Rattle.commands.proofs.Documents.{with_tree}
-use Rattle.commands.proofs.Input.StageLemmas.{stage_refused}
-use Rattle.commands.proofs.Input.OutcomeLemmas.{told_nothing, unread_nothing}
+use Rattle.commands.proofs.Inputs.StageLemmas.{stage_refused}
+use Rattle.commands.proofs.Inputs.OutcomeLemmas.{told_nothing, unread_nothing}
 use Rattle.commands.proofs.convolution_commands.listed_program.Goals as goal
 
 pub returns-in_err-plan-clause-told : goal.returns-in_err-plan-clause-told

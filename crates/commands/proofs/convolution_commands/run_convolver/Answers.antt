@@ -6,8 +6,8 @@ use Rattle.io_edge.specs.Feed.{to_come}
 use Rattle.spiral_words.specs.declared.statuses.status.Status.TheVariants.{NoMemory}
 use Rattle.schedules.specs.Turns.{turns_of}
 use Rattle.commands.proofs.ConvolutionCommands.ConvolvedLemmas.{list_come, convolves_run}
-use Rattle.commands.proofs.Input.StatusLemmas.{quiet_ends, run_ends}
-use Rattle.commands.proofs.Input.OutcomeLemmas.{told_nothing}
+use Rattle.commands.proofs.Inputs.StatusLemmas.{quiet_ends, run_ends}
+use Rattle.commands.proofs.Inputs.OutcomeLemmas.{told_nothing}
 use Rattle.commands.proofs.convolution_commands.run_convolver.Goals as goal
 
 pub returns-in_err-run_vectors-clause-told : goal.returns-in_err-run_vectors-clause-told

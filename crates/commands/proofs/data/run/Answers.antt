@@ -6,7 +6,7 @@ use Rattle.commands.specs.Equations.Run.{run_work}
 use Rattle.commands.specs.Input.Orders.{procs_in}
 use Rattle.commands.specs.Input.Stage.{status_of}
 use Rattle.commands.proofs.RunLemmas.{no_stranger, run_told}
-use Rattle.commands.proofs.Input.StageLemmas.{stage_refused}
+use Rattle.commands.proofs.Inputs.StageLemmas.{stage_refused}
 use Rattle.commands.proofs.data.run.Goals as goal
 
 pub stream-requires-clause-turns : goal.stream-requires-clause-turns

@@ -6,8 +6,8 @@ use Rattle.commands.specs.Equations.Trace.{trace_work}
 use Rattle.commands.specs.Input.Orders.{procs_in}
 use Rattle.commands.specs.Input.Stage.{status_of}
 use Rattle.commands.proofs.RunLemmas.{no_stranger, trace_told}
-use Rattle.commands.proofs.Input.StageLemmas.{stage_refused}
-use Rattle.commands.proofs.Input.OutcomeLemmas.{unread_nothing}
+use Rattle.commands.proofs.Inputs.StageLemmas.{stage_refused}
+use Rattle.commands.proofs.Inputs.OutcomeLemmas.{unread_nothing}
 use Rattle.commands.proofs.data.trace.Goals as goal
 
 pub stream-requires-clause-turns : goal.stream-requires-clause-turns

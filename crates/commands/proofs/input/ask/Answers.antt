@@ -6,8 +6,8 @@ use Rattle.commands.specs.Input.Asking.{spelt}
 use Rattle.commands.specs.Input.Commands.{procs_named}
 use Rattle.commands.specs.Input.Stage.{◌>>=◌}
 use Rattle.commands.specs.Equations.Orders.{turned}
-use Rattle.commands.proofs.Input.AskLemmas.{asked_line_fault, asked_request_fault, asked_turn_fault}
-use Rattle.commands.proofs.Input.AskLemmas.{asked_request}
+use Rattle.commands.proofs.Inputs.AskLemmas.{asked_line_fault, asked_request_fault, asked_turn_fault}
+use Rattle.commands.proofs.Inputs.AskLemmas.{asked_request}
 use Rattle.commands.proofs.input.ask.Goals as goal
 
 pub returns-in_err-count-clause-told : goal.returns-in_err-count-clause-told

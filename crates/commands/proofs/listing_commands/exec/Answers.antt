@@ -4,7 +4,7 @@ use Rattle.commands.specs.Input.Stage.{status_of}
 use Rattle.commands.specs.Equations.Exec.{exec_work}
 use Rattle.commands.specs.Equations.Front.{part}
 use Rattle.commands.specs.ListingCommands.Listed.{loaded}
-use Rattle.commands.proofs.Input.FrontLemmas.{text_refused}
+use Rattle.commands.proofs.Inputs.FrontLemmas.{text_refused}
 use Rattle.commands.proofs.ListingCommands.ListedLemmas.{exec_unread, exec_told}
 use Rattle.commands.proofs.listing_commands.exec.Goals as goal
 

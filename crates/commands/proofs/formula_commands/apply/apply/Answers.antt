@@ -8,7 +8,7 @@ use Rattle.commands.specs.Equations.Formulas.{formed}
 use Rattle.commands.specs.Input.Ends.{EndsCleanly}
 use Rattle.commands.specs.Input.Stage.{status_of}
 use Rattle.commands.specs.Equations.Front.{line}
-use Rattle.commands.proofs.Input.FrontLemmas.{text_refused}
+use Rattle.commands.proofs.Inputs.FrontLemmas.{text_refused}
 use Rattle.commands.proofs.FormulaCommands.CompiledLemmas.{line_unread, apply_told}
 use Rattle.commands.proofs.formula_commands.apply.apply.Goals as goal
 

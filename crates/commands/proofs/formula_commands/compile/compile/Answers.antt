@@ -4,7 +4,7 @@ use Rattle.spiral_words.specs.Statuses.Status.{IsDefined}
 use Rattle.commands.specs.Equations.Compile.{compile_work}
 use Rattle.commands.specs.Equations.Formulas.{written}
 use Rattle.commands.specs.Equations.Front.{line}
-use Rattle.commands.proofs.Input.FrontLemmas.{text_refused}
+use Rattle.commands.proofs.Inputs.FrontLemmas.{text_refused}
 use Rattle.commands.proofs.FormulaCommands.CompiledLemmas.{line_unread, compile_told, compile_cut}
 use Rattle.commands.proofs.formula_commands.compile.compile.Goals as goal
 

@@ -5,7 +5,7 @@ use Rattle.std.proofs.lemmas.Bool.{ne_eqb}
 use Rattle.std.proofs.KnownBytes.{Consumes-trans, Consumes-kept}
 use Rattle.io_edge.specs.Told.{IsOver}
 use Rattle.io_edge.specs.Feed.{to_come}
-use Rattle.commands.proofs.Input.LineLemmas.{unended_push, line_ended, line_cut, line_longer}
+use Rattle.commands.proofs.Inputs.LineLemmas.{unended_push, line_ended, line_cut, line_longer}
 use Rattle.commands.proofs.input.line.read_line.Goals as goal
 
 pub returns-then-byte-eq10-clause-answer : goal.returns-then-byte-eq10-clause-answer

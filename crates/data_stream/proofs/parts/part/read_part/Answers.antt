@@ -4,7 +4,7 @@ use Rattle.std.proofs.lemmas.Result.{err_from_is_err_and}
 use Rattle.io_edge.specs.Told.{IsOver}
 use Rattle.io_edge.specs.Feed.{to_come}
 use Rattle.data_stream.specs.Parts.Part.{ends_line}
-use Rattle.data_stream.proofs.Parts.PartLemmas.{front_push, part_ended, part_cut, part_longer, part_failed}
+use Rattle.data_stream.proofs.TwoParts.PartLemmas.{front_push, part_ended, part_cut, part_longer, part_failed}
 use Rattle.data_stream.proofs.parts.part.read_part.Goals as goal
 
 pub returns-in_err-byte-clause-answer : goal.returns-in_err-byte-clause-answer

@@ -1,7 +1,7 @@
 use Rattle.std.proofs.Common.{◌≡◌, ◌+◌, ◌≤◌, ◌-◌, length}
 use Rattle.std.specs.Io.KnownBytes.{Consumes}
 use Rattle.io_edge.specs.Feed.{to_come}
-use Rattle.data_stream.proofs.Parts.PartLemmas.{IsFront}
+use Rattle.data_stream.proofs.TwoParts.PartLemmas.{IsFront}
 use Rattle.data_stream.proofs.parts.part.read_part.Given as goal
 
 -- the bytes so far were read, one a turn, the part goes on, and nothing failed

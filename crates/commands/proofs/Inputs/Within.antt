@@ -6,7 +6,7 @@ use Rattle.commands.specs.Input.Outcomes.{Outcomes, Meets, SourceMeets}
 use Rattle.commands.specs.Input.Stage.{Stage, given, ◌>>=◌}
 use Rattle.commands.specs.Equations.Front.{Front, taken_from, room_behind, MayGoOn, HasEnded, ordered, Work, by_front}
 use Rattle.commands.specs.Equations.Front.{staged}
-use Rattle.commands.proofs.Input.Nested.{joined, unnested, answer_map, broken_map, cut_map}
+use Rattle.commands.proofs.Inputs.Nested.{joined, unnested, answer_map, broken_map, cut_map}
 
 -- all that is right for the first is right for the second
 pub record Within (a b : Outcomes) : Type 1 where

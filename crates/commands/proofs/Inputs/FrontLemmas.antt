@@ -16,7 +16,7 @@ use Rattle.commands.specs.Input.Outcomes.{Meets, SourceMeets}
 use Rattle.commands.specs.Input.Refusals.{IsRefusal}
 use Rattle.commands.specs.Input.Stage.{Stage, HasGiven}
 use Rattle.commands.specs.Equations.Front.{Front, MayGoOn, HasEnded, Work, taken_from, room_behind, ordered, by_front}
-use Rattle.commands.proofs.Input.InputLemmas.{none_cut}
+use Rattle.commands.proofs.Inputs.InputLemmas.{none_cut}
 use Rattle.io_edge.proofs.ToldLemmas.{over_left, over_rest}
 
 -- What holds of each front

@@ -7,7 +7,7 @@ use Rattle.commands.specs.Input.Outcomes.{Meets, SourceMeets}
 use Rattle.commands.specs.Input.Refusals.{IsRefusal}
 use Rattle.commands.specs.Input.Stage.{Stage}
 use Rattle.commands.specs.Equations.Front.{Work, staged}
-use Rattle.commands.proofs.Input.OutcomeLemmas.{meets_nothing, unread_meets}
+use Rattle.commands.proofs.Inputs.OutcomeLemmas.{meets_nothing, unread_meets}
 
 -- the stage refuses
 pub stage_meets_nothing : {A : Type 0} (stage : Stage A) (work : A → Work) (room : ℕ) (bytes left : List ℕ)

@@ -9,7 +9,7 @@ use Rattle.std.proofs.lemmas.Bool.{cases_Bool, or_parts}
 use Rattle.std.specs.List.{before_first, after_first, list_any, position_or_len}
 use Rattle.commands.specs.Input.Line.{IsWhole}
 use Rattle.commands.specs.Equations.Front.{is_line_end, line, HasEnded}
-use Rattle.commands.proofs.Input.FrontLemmas.{IsFront}
+use Rattle.commands.proofs.Inputs.FrontLemmas.{IsFront}
 
 -- the first line, and what comes after its end
 abbrev first_line : List ℕ → List ℕ

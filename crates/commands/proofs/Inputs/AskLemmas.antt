@@ -20,7 +20,7 @@ use Rattle.commands.specs.Input.Line.{IsWhole, GivesLine}
 use Rattle.commands.specs.Input.Stage.{Stage, ◌>>=◌}
 use Rattle.commands.specs.Equations.Front.{line}
 use Rattle.commands.specs.Equations.Orders.{turned}
-use Rattle.commands.proofs.Input.FrontLemmas.{asks_read_fault, asks_too_long, asks_refused, asks_value}
+use Rattle.commands.proofs.Inputs.FrontLemmas.{asks_read_fault, asks_too_long, asks_refused, asks_value}
 
 -- the first line can't be read
 pub asked_line_fault : {A : Type 0} (orders : List ℕ → Stage A) (before after : Option (List ℕ)) (taken : ℕ)

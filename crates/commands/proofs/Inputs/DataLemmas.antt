@@ -22,7 +22,7 @@ use Rattle.spiral_words.specs.declared.statuses.status.Status.{Status}
 use Rattle.spiral_words.specs.declared.statuses.status.Status.TheVariants.{ReadFault, WriteFault}
 use Rattle.commands.specs.Input.Outcomes.{Outcomes, Meets, SourceMeets}
 use Rattle.commands.specs.Equations.Works.{Wants, ReadsOn, all, mapping, status_by}
-use Rattle.commands.proofs.Input.OutcomeLemmas.{answered_meets, broken_meets, cut_meets}
+use Rattle.commands.proofs.Inputs.OutcomeLemmas.{answered_meets, broken_meets, cut_meets}
 use Rattle.commands.specs.Input.Fine.{IsFine}
 use Rattle.runs.specs.declared.stream.StreamFault.{StreamFault}
 use Rattle.runs.specs.declared.stream.StreamFault.TheVariants as stream
