@@ -1,4 +1,4 @@
-//! The texts of a request: its line, and the word that names a schedule.
+//! The line of a request.
 #![tactic(auto)]
 
 ghost use Rattle.request_text.specs.Answer.{Answers, ConvAnswers};
