@@ -14,4 +14,6 @@ pub mod Lives
 pub mod Exact
 pub mod Decided
 pub mod Marks
+pub mod Knowing
+pub mod KnownPhases
 mod FreshExamples

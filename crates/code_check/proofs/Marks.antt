@@ -268,14 +268,11 @@ module _ (p : PlainProgram) where
 
   input-known : (k : ℕ) → Marked (input_marks p) k → k < p.size
   input-known k h =
-      let rest = 4 * whole_lines p.size p.line - p.size in
       ⊎_elim
-      (λ (low : k < p.size). low)
-      (λ (past : p.size ≤ k).
-      let long : length (replicate p.size true) ≡ p.size = length-replicate {A = Bool} p.size true in
-      absurd (unmarked rest (k - p.size)
-      (sym (get_or-append_right (replicate p.size true) (replicate rest false) p.size k false long past) ∙ h)))
-      (cases_lt k p.size)
+      (λ (before : Marked (replicate (4 * whole_lines p.size p.line) false) k).
+      absurd (unmarked (4 * whole_lines p.size p.line) k before))
+      (λ (now : Contains (range_with_len 0 p.size) k). let item = range_item 0 p.size k now in omega (arith, item.1))
+      (marked-with p.size (replicate (4 * whole_lines p.size p.line) false) 0 k h)
 
   -- ---- the program
 

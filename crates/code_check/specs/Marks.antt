@@ -101,7 +101,7 @@ words_after_phases p (suc n) phase words = words_after_phases p n (phase + 1) (w
 
 -- the words of the input are known at first
 abbrev pub input_marks : PlainProgram → List Bool
-input_marks p = replicate p.size true ++ replicate (4 * whole_lines p.size p.line - p.size) false
+input_marks p = with_marks p.size (replicate (4 * whole_lines p.size p.line) false) 0
 
 -- each action reads what is known, and in the end all words of the result are
 abbrev pub is_fresh : PlainProgram → Bool
