@@ -27,7 +27,7 @@ use Rattle.code_check.specs.Marks.{words_after_processors, phases_known, words_a
 
 -- ---- marks
 
-abbrev Marked : List Bool → ℕ → Type 0
+abbrev pub Marked : List Bool → ℕ → Type 0
 Marked marks k = is_marked marks k ≡ true
 
 marked-set : (marks : List Bool) (i k : ℕ) → Marked (slice_set marks i true) k → Marked marks k ⊎ (i ≡ k)
@@ -131,10 +131,10 @@ registers-marked lanes (Tile r x) registers k h = marked-with lanes registers r 
 -- ---- lists
 
 module _ (lanes : ℕ) where
-  abbrev LoadKnown : (ℕ → Type 0) → List Action → Type 0
+  abbrev pub LoadKnown : (ℕ → Type 0) → List Action → Type 0
   LoadKnown K actions = lists.ReadKnown (loaded_words lanes) (stored_words lanes) K actions
 
-  abbrev ReadPut : (ℕ → Type 0) → List Action → Type 0
+  abbrev pub ReadPut : (ℕ → Type 0) → List Action → Type 0
   ReadPut K actions = lists.ReadKnown (read_registers lanes) (put_registers lanes) K actions
 
   list-known : (actions : List Action) (m : Marks) → read_known lanes actions m ≡ true →
@@ -280,7 +280,7 @@ module _ (p : PlainProgram) where
   code = plain_code p
 
   -- an array has room for its words
-  size_room : (size line : ℕ) → 1 ≤ line → size ≤ whole_lines size line
+  pub size_room : (size line : ℕ) → 1 ≤ line → size ≤ whole_lines size line
   size_room size line some =
       let a = div-add-mod' (size + (line - 1)) line in
       let b = mod_below (size + (line - 1)) line some in

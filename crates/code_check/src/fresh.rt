@@ -2,9 +2,11 @@
 
 ghost use Rattle.std.specs.Prelude.{◌≡◌, ℕ, ◌↔◌, ◌<◌, ◌≤◌, length, take, IsTrue, IfOk};
 ghost use Rattle.icode.specs.Actions.{StepFits};
+ghost use Rattle.icode.specs.Fresh.{IsFresh};
 ghost use Rattle.icode.specs.Limits.{is_op_within, is_stmt_within, is_body_within};
+ghost use Rattle.icode.specs.Machine.{IsApart};
 ghost use Rattle.icode.specs.Plain.{plain_op};
-ghost use Rattle.icode.specs.Program.{plain_program, op_step, Fits};
+ghost use Rattle.icode.specs.Program.{plain_program, code_of, op_step, Fits};
 ghost use Rattle.code_check.specs.Live.{plain_live, plain_lives};
 ghost use Rattle.code_check.specs.Marks.{reads_known, marks_after, is_fresh};
 ghost use Rattle.code_check.specs.MarkTables.{marks_of, IsMarkTable, StmtFits, BodyFits};
@@ -172,9 +174,8 @@ fn phase_reads_known(
     Ok(true)
 }
 
-/// Whether each action reads what its processor has put in the phase, or what is of the input or stored before, and all
-/// words of the result are stored.
-pub fn is_fresh(alloc: Global, program: &Program) -> Result<bool, NoMemory>
+// The same for all phases, and whether then all words of the result are known.
+fn program_reads_known(alloc: Global, program: &Program) -> Result<bool, NoMemory>
     requires fits { Fits program.now }
     ensures { IfOk result (λ fresh. fresh ≡ is_fresh (plain_program program.now)) }
 {
@@ -185,4 +186,18 @@ pub fn is_fresh(alloc: Global, program: &Program) -> Result<bool, NoMemory>
         }
     }
     Ok(are_marked(&table.words, program.size, program.array_size()))
+}
+
+/// Whether the program reads nothing that is left over: each action loads words of the input or words that were stored
+/// before, reads registers that its processor has put in the phase, and all words of the result are stored.
+pub fn is_fresh(alloc: Global, program: &Program) -> Result<bool, NoMemory>
+    requires fits { Fits program.now }
+    // What a walk over all actions answers that marks what is known.
+    ensures marks { IfOk result (λ fresh. fresh ≡ is_fresh (plain_program program.now)) }
+    // It is the right answer where no processor touches a line that another writes in the phase.
+    ensures decides { ((phase : ℕ) → IsApart (code_of program.now) phase)
+        → IfOk result (λ fresh. IsTrue fresh ↔ IsFresh (code_of program.now)) }
+{
+    let fresh = program_reads_known(alloc, program)?;
+    Ok(fresh)
 }

@@ -1,27 +1,13 @@
-use Rattle.std.proofs.Common.{◌<◌, Vec, Global, length, sym, ◌∙◌, arith}
-use Rattle.std.proofs.lemmas.List.{length-map}
-use Rattle.icode.specs.declared.program.Stmt.{Stmt}
-use Rattle.icode.specs.Plain.{plain_body, plain_phases}
+use Rattle.std.proofs.Common.{◌↔◌, Bool, IsTrue, subst, sym}
+use Rattle.icode.specs.Actions.{plain_code}
+use Rattle.icode.specs.Fresh.{IsFresh}
 use Rattle.icode.specs.Program.{plain_program}
-use Rattle.code_check.proofs.KnownPhases.{phase_goes_on, phase_lost}
+use Rattle.code_check.proofs.MarksComplete.{marks_decide}
+use Rattle.code_check.proofs.Phases.{limits_of}
 use Rattle.code_check.proofs.fresh.is_fresh.Goals as goal
 
-pub returns-then-not-branch : goal.returns-then-not-branch
-returns-then-not-branch c =
+pub returns-clause-decides : goal.returns-clause-decides
+returns-clause-decides c apart =
     let p = c.args.program.now in
-    let here : c.loop-phase.phase < length (plain_phases p.phases.items) =
-    omega (arith, c.loop-phase-test.true, c.len-phase-end.ensures, length-map p.phases.items (λ (b : Vec Stmt Global). plain_body b.items)) in
-    phase_lost (plain_program p) c.loop-phase.phase c.loop-phase.table.words.items here c.loop-phase.invariant.walk
-    (sym c.if-not-branch.true ∙ c.in_ok-phase_reads_known.ensures.known)
-
-pub loop-phase-preserved : goal.loop-phase-preserved
-loop-phase-preserved c =
-    let p = c.args.program.now in
-    let here : c.loop-phase.phase < length (plain_phases p.phases.items) =
-    omega (arith, c.loop-phase-test.true, c.len-phase-end.ensures, length-map p.phases.items (λ (b : Vec Stmt Global). plain_body b.items)) in
-    record {
-      table = c.in_ok-phase_reads_known.ensures.table;
-      walk = phase_goes_on (plain_program p) c.loop-phase.phase c.loop-phase.table.words.items here c.loop-phase.invariant.walk
-          c.phase_reads_known.new.table.words.items (sym c.if-not-branch.false ∙ c.in_ok-phase_reads_known.ensures.known)
-          (c.in_ok-phase_reads_known.ensures.after c.if-not-branch.false);
-    }
+    subst (λ (b : Bool). IsTrue b ↔ IsFresh (plain_code (plain_program p))) (sym c.in_ok-fresh.ensures)
+    (marks_decide (plain_program p) (limits_of p) c.requires.fits apart)

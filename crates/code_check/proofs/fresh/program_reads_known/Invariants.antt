@@ -1,7 +1,7 @@
 use Rattle.icode.specs.Program.{plain_program}
 use Rattle.code_check.specs.MarkTables.{IsMarkTable}
 use Rattle.code_check.proofs.KnownPhases.{IsInProgram}
-use Rattle.code_check.proofs.fresh.is_fresh.Given as goal
+use Rattle.code_check.proofs.fresh.program_reads_known.Given as goal
 
 abbrev pub invariant-loop-phase : goal.invariant-loop-phase
 invariant-loop-phase l = record {
