@@ -72,7 +72,8 @@ module _ (p : PlainProgram) (whole left first rest : List Step) (m m0 : Marks) (
   led_lost lost = sym (know-split ∙ ap (λ b. b && know p rest (lead p first m)) (sym lost))
 
 -- a walk over statements, of which these are left
-pub record IsInBody (p : PlainProgram) (q : ℕ) (whole left : PlainBody) (vs : List ℕ) (depth : ℕ) (m m0 : Marks) : Type 0 where
+pub record IsInBody (p : PlainProgram) (q : ℕ) (whole left : PlainBody) (vs : List ℕ) (depth : ℕ) (m m0 : Marks) :
+    Type 0 where
   pub led : IsLed p (steps_of_body p whole vs q) (steps_of_body p left vs q) m m0
   pub fits : All (StepFits p) (steps_of_body p left vs q)
   pub within : is_body_within p.modulus left depth ≡ true
@@ -109,14 +110,16 @@ module _ (p : PlainProgram) (q : ℕ) (items : List Live) (i : ℕ) (x : Live) (
 
   pub item_lost : false ≡ know p first m → false ≡ know p (steps_of_body p (plain_lives items) vs q) m0
   item_lost =
-      led_lost p (steps_of_body p (plain_lives items) vs q) (steps_of_body p (plain_lives (drop i items)) vs q) first rest
+      led_lost p (steps_of_body p (plain_lives items) vs q) (steps_of_body p (plain_lives (drop i items)) vs q)
+      first rest
       m m0 told at.led
 
   pub item_goes_on : (m1 : Marks) → true ≡ know p first m → m1 ≡ lead p first m →
       IsInBody p q (plain_lives items) (plain_lives (drop (i + 1) items)) vs depth m1 m0
   item_goes_on m1 found after =
       record {
-        led = led_on p (steps_of_body p (plain_lives items) vs q) (steps_of_body p (plain_lives (drop i items)) vs q) first
+        led = led_on p (steps_of_body p (plain_lives items) vs q)
+            (steps_of_body p (plain_lives (drop i items)) vs q) first
             rest m m0 told at.led m1 found after;
         fits = parts_fit.1;
         within = parts_within.1;
@@ -124,10 +127,12 @@ module _ (p : PlainProgram) (q : ℕ) (items : List Live) (i : ℕ) (x : Live) (
 
 -- the steps of the turns of a loop from one on
 abbrev pub turns_left : PlainProgram → ℕ → PlainBody → List ℕ → ℕ → ℕ → List Step
-turns_left p q body vs turn end = flat_map (λ i. steps_of_body p body (vs ++ i ∷ []) q) (range_with_len turn (end - turn))
+turns_left p q body vs turn end = flat_map (λ i. steps_of_body p body (vs ++ i ∷ []) q)
+    (range_with_len turn (end - turn))
 
 -- a walk over a loop, of which these turns are left
-pub record IsInLoop (p : PlainProgram) (q : ℕ) (s : PlainStmt) (body : PlainBody) (vs : List ℕ) (turn end : ℕ) (m m0 : Marks) : Type 0 where
+pub record IsInLoop (p : PlainProgram) (q : ℕ) (s : PlainStmt) (body : PlainBody) (vs : List ℕ) (turn end : ℕ)
+    (m m0 : Marks) : Type 0 where
   pub led : IsLed p (steps_of_stmt p s vs q) (turns_left p q body vs turn end) m m0
   pub fits : All (StepFits p) (turns_left p q body vs turn end)
 
@@ -169,7 +174,8 @@ module _ (p : PlainProgram) (q : ℕ) (s : PlainStmt) (body : PlainBody) (items 
 
 -- the values of the open loops, with a turn of the loop that these statements stand in
 pub opened : (m depth count turn : ℕ) (body : PlainBody) (s : PlainStmt) (values before : List ℕ) →
-    s ≡ Loop count body → is_stmt_within m s depth ≡ true → length values ≡ 64 → take depth values ≡ take depth before →
+    s ≡ Loop count body → is_stmt_within m s depth ≡ true → length values ≡ 64 → take depth values ≡ take depth
+    before →
     take (depth + 1) (slice_set values depth turn) ≡ take depth before ++ turn ∷ []
 opened m depth count turn body s values before is within long same =
     let inner = within_loop m depth count body s is within in

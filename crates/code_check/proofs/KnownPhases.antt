@@ -1,5 +1,6 @@
 -- The walk over processors and phases, of which some are left.
-use Rattle.std.proofs.Common.{◌≡◌, ℕ, suc, ◌+◌, ◌-◌, ◌<◌, ◌≤◌, ◌&&◌, List, Bool, true, false, length, sym, ap, ap₂, ◌∙◌}
+use Rattle.std.proofs.Common.{◌≡◌, ℕ, suc, ◌+◌, ◌-◌, ◌<◌, ◌≤◌, ◌&&◌, List, Bool, true, false, length, sym, ap, ap₂}
+use Rattle.std.proofs.Common.{◌∙◌}
 use Rattle.std.proofs.Common.{arith, replicate, Vec, Global}
 use Rattle.std.proofs.Math.Bool.{and_assoc}
 use Rattle.std.proofs.lemmas.List.{length-replicate}
@@ -23,7 +24,8 @@ begun p t u words registers is =
         words = ap (λ (w : Vec Bool Global). length w.items) words ∙ is.words;
         registers = ap length none ∙ length-replicate {A = Bool} p.regs false;
       },
-      ap₂ (λ words registers. record { words = words; registers = registers }) (ap (λ (w : Vec Bool Global). w.items) words) none,
+      ap₂ (λ words registers. record { words = words; registers = registers })
+          (ap (λ (w : Vec Bool Global). w.items) words) none,
     )
 
 -- a walk over a phase, of which the processors from q on are left
@@ -44,7 +46,8 @@ module _ (p : PlainProgram) (phase q : ℕ) (words words0 : List Bool) (few : q 
   leads = ap₂ (lead p) same (sym begun)
 
   abbrev rest : Bool
-  rest = processors_known p phase (p.procs - (q + 1)) (q + 1) (lead p (steps_of_phase p phase q) (marks_at p words)).words
+  rest = processors_known p phase (p.procs - (q + 1)) (q + 1)
+      (lead p (steps_of_phase p phase q) (marks_at p words)).words
 
   known-split : processors_known p phase p.procs 0 words0 ≡ (know p steps m && rest)
   known-split =
@@ -60,7 +63,8 @@ module _ (p : PlainProgram) (phase q : ℕ) (words words0 : List Bool) (few : q 
       ap (λ (m : Marks). m.words) leads ∙ sym after in
       record {
         known = known-split
-            ∙ (ap (λ (b : Bool). b && rest) (sym found) ∙ ap (processors_known p phase (p.procs - (q + 1)) (q + 1)) next);
+            ∙ (ap (λ (b : Bool). b && rest) (sym found)
+            ∙ ap (processors_known p phase (p.procs - (q + 1)) (q + 1)) next);
         after = at.after
             ∙ (ap (λ n. words_after_processors p phase n q words) left
             ∙ ap (words_after_processors p phase (p.procs - (q + 1)) (q + 1)) next);
@@ -101,7 +105,8 @@ module _ (p : PlainProgram) (phase : ℕ) (words : List Bool) (lt : phase < leng
 
   pub phase_lost : false ≡ processors_known p phase p.procs 0 words → false ≡ is_fresh p
   phase_lost lost =
-      sym (fresh-split ∙ ap (λ (b : Bool). b && from_phase p (length p.phases - (phase + 1)) (phase + 1) after) (sym lost))
+      sym (fresh-split ∙ ap (λ (b : Bool). b && from_phase p (length p.phases - (phase + 1)) (phase + 1) after)
+      (sym lost))
 
   pub phase_goes_on : (words1 : List Bool) → true ≡ processors_known p phase p.procs 0 words → words1 ≡ after →
       IsInProgram p (phase + 1) words1

@@ -1,6 +1,8 @@
 -- The walk over a program that is fresh finds all that it reads marked.
-use Rattle.std.proofs.Common.{◌≡◌, ℕ, zero, suc, ◌+◌, ◌-◌, ◌*◌, ◌<◌, ◌≤◌, ◌⊎◌, ◌&&◌, List, [], ◌∷◌, Bool, true, false, length}
-use Rattle.std.proofs.Common.{inl, inr, ⊎_elim, refl, sym, ap, ap₂, ◌∙◌, subst, arith, All, Contains, flat_map, take, Some}
+use Rattle.std.proofs.Common.{◌≡◌, ℕ, zero, suc, ◌+◌, ◌-◌, ◌*◌, ◌<◌, ◌≤◌, ◌⊎◌, ◌&&◌, List, [], ◌∷◌, Bool, true, false}
+use Rattle.std.proofs.Common.{length}
+use Rattle.std.proofs.Common.{inl, inr, ⊎_elim, refl, sym, ap, ap₂, ◌∙◌, subst, arith, All, Contains, flat_map, take}
+use Rattle.std.proofs.Common.{Some}
 use Rattle.std.proofs.Common.{replicate, get_or-set_other, get_or-set_same, length-set}
 use Rattle.std.specs.Prelude.{slice_get, slice_index_or, slice_set}
 use Rattle.std.specs.List.{range_with_len}
@@ -11,7 +13,8 @@ use Rattle.icode.specs.declared.action.Action.{Action}
 use Rattle.icode.specs.declared.action.Action.TheVariants.{Load, Store, Zero, Add, Sub, Neg, Mul, Tile}
 use Rattle.icode.specs.Actions.{PlainFits, Step, StepFits, actions_of, plain_code, step_of, steps_of_phase}
 use Rattle.icode.specs.Expression.{sum_numbers}
-use Rattle.icode.specs.Fresh.{HaveStored, HavePut, IsFresh, IsStoredBefore, loaded_words, read_registers, put_registers}
+use Rattle.icode.specs.Fresh.{HaveStored, HavePut, IsFresh, IsStoredBefore, loaded_words, read_registers}
+use Rattle.icode.specs.Fresh.{put_registers}
 use Rattle.icode.specs.Limits.{IsWithinLimits, is_op_within}
 use Rattle.icode.specs.Machine.{Code, acts, padded, stored_words, whole_lines}
 use Rattle.icode.specs.Plain.{PlainOp, PlainProgram}
@@ -30,7 +33,8 @@ use Rattle.code_check.proofs.Tables.{no_list_past_procs, no_list_past_phases}
 
 -- ---- marks
 
-set-marked : (marks : List Bool) (i k : ℕ) → i < length marks → Marked marks k ⊎ (i ≡ k) → Marked (slice_set marks i true) k
+set-marked : (marks : List Bool) (i k : ℕ) → i < length marks → Marked marks k
+    ⊎ (i ≡ k) → Marked (slice_set marks i true) k
 set-marked marks i k inside h =
     ⊎_elim
     (λ (same : k ≡ i). subst (Marked (slice_set marks i true)) (sym same) (get_or-set_same marks i true false inside))
@@ -112,7 +116,8 @@ words-long lanes (Neg r x) words = refl
 words-long lanes (Mul r x factors) words = refl
 words-long lanes (Tile r x) words = refl
 
-registers-long : (lanes : ℕ) (a : Action) (registers : List Bool) → length (registers_after lanes a registers) ≡ length registers
+registers-long : (lanes : ℕ) (a : Action) (registers : List Bool) → length (registers_after lanes a registers) ≡
+    length registers
 registers-long lanes (Load r address) registers = length-set registers r true
 registers-long lanes (Store address r) registers = refl
 registers-long lanes (Zero r) registers = length-set registers r true
@@ -123,10 +128,12 @@ registers-long lanes (Mul r x factors) registers = length-set registers r true
 registers-long lanes (Tile r x) registers = with-long lanes registers r
 
 nothing-more : (words : List Bool) (k : ℕ) → Marked words k ⊎ Contains [] k → Marked words k
-nothing-more words k h = ⊎_elim (λ (old : Marked words k). old) (λ (none : Contains [] k). absurd (Contains-nil k none)) h
+nothing-more words k h = ⊎_elim (λ (old : Marked words k). old)
+    (λ (none : Contains [] k). absurd (Contains-nil k none)) h
 
 words-all : (lanes : ℕ) (a : Action) (words : List Bool) (k : ℕ) →
-    ((j : ℕ) → Contains (stored_words lanes a) j → j < length words) → Marked words k ⊎ Contains (stored_words lanes a) k →
+    ((j : ℕ) → Contains (stored_words lanes a) j → j < length words) → Marked words k
+    ⊎ Contains (stored_words lanes a) k →
     Marked (words_after lanes a words) k
 words-all lanes (Load r address) words k inside h = nothing-more words k h
 words-all lanes (Store address r) words k inside h = with-marked lanes words address k inside h
@@ -166,37 +173,47 @@ record Cover (room regs : ℕ) (K L : ℕ → Type 0) (m : Marks) : Type 0 where
 
 module _ (lanes words regs : ℕ) where
   cover-after : (a : Action) (m : Marks) (K L : ℕ → Type 0) → PutsInside lanes words regs a → Cover words regs K L m →
-      Cover words regs (λ k. K k ⊎ Contains (stored_words lanes a) k) (λ r. L r ⊎ Contains (put_registers lanes a) r) (marks_after lanes a m)
+      Cover words regs (λ k. K k ⊎ Contains (stored_words lanes a) k)
+      (λ r. L r ⊎ Contains (put_registers lanes a) r) (marks_after lanes a m)
   cover-after a m K L inside cover =
       record {
         words-are = words-long lanes a m.words ∙ cover.words-are;
         registers-are = registers-long lanes a m.registers ∙ cover.registers-are;
-        words = λ k h. words-all lanes a m.words k (λ j has. let low = inside.stores j has in omega (arith, low, cover.words-are))
+        words = λ k h. words-all lanes a m.words k (λ j has. let low = inside.stores j has in omega
+            (arith, low, cover.words-are))
             (⊎_elim (λ (x : K k). inl (cover.words k x)) (λ (now : Contains (stored_words lanes a) k). inr now) h);
-        registers = λ r h. registers-all lanes a m.registers r (λ j has. let low = inside.puts j has in omega (arith, low, cover.registers-are))
-            (⊎_elim (λ (x : L r). inl (cover.registers r x)) (λ (now : Contains (put_registers lanes a) r). inr now) h);
+        registers = λ r h. registers-all lanes a m.registers r
+            (λ j has. let low = inside.puts j has in omega (arith, low, cover.registers-are))
+            (⊎_elim (λ (x : L r). inl (cover.registers r x)) (λ (now : Contains (put_registers lanes a) r). inr now)
+            h);
       }
 
   list-complete : (actions : List Action) (m : Marks) (K L : ℕ → Type 0) → All (PutsInside lanes words regs) actions →
       Cover words regs K L m → LoadKnown lanes K actions → ReadPut lanes L actions →
       (read_known lanes actions m ≡ true)
-      × Cover words regs (λ k. K k ⊎ HaveStored lanes actions k) (λ r. L r ⊎ HavePut lanes actions r) (marks_after_all lanes actions m)
+      × Cover words regs (λ k. K k ⊎ HaveStored lanes actions k) (λ r. L r ⊎ HavePut lanes actions r)
+      (marks_after_all lanes actions m)
   list-complete [] m K L inside cover loads reads = (
     refl,
     record {
       words-are = cover.words-are;
       registers-are = cover.registers-are;
-      words = λ k. ⊎_elim (λ (x : K k). cover.words k x) (λ (none : HaveStored lanes [] k). absurd (Contains-nil k none));
-      registers = λ r. ⊎_elim (λ (x : L r). cover.registers r x) (λ (none : HavePut lanes [] r). absurd (Contains-nil r none));
+      words = λ k. ⊎_elim (λ (x : K k). cover.words k x)
+          (λ (none : HaveStored lanes [] k). absurd (Contains-nil k none));
+      registers = λ r. ⊎_elim (λ (x : L r). cover.registers r x)
+          (λ (none : HavePut lanes [] r). absurd (Contains-nil r none));
     },
   )
   list-complete (a ∷ actions) m K L inside cover loads reads =
       let K1 : ℕ → Type 0 = λ k. K k ⊎ Contains (stored_words lanes a) k in
       let L1 : ℕ → Type 0 = λ r. L r ⊎ Contains (put_registers lanes a) r in
-      let here = reads-all lanes a m (λ k has. cover.words k (loads.0 k has)) (λ r has. cover.registers r (reads.0 r has)) in
-      let rest = list-complete actions (marks_after lanes a m) K1 L1 (All-tail (PutsInside lanes words regs) a actions inside)
+      let here = reads-all lanes a m (λ k has. cover.words k (loads.0 k has))
+      (λ r has. cover.registers r (reads.0 r has)) in
+      let rest = list-complete actions (marks_after lanes a m) K1 L1
+      (All-tail (PutsInside lanes words regs) a actions inside)
       (cover-after a m K L (All-head (PutsInside lanes words regs) a actions inside) cover) loads.1 reads.1 in
-      let all : Cover words regs (λ k. K1 k ⊎ HaveStored lanes actions k) (λ r. L1 r ⊎ HavePut lanes actions r) (marks_after_all lanes actions (marks_after lanes a m)) = rest.1 in (
+      let all : Cover words regs (λ k. K1 k ⊎ HaveStored lanes actions k) (λ r. L1 r ⊎ HavePut lanes actions r)
+      (marks_after_all lanes actions (marks_after lanes a m)) = rest.1 in (
         ap₂ (λ (a b : Bool). a && b) here rest.0,
         record {
           words-are = all.words-are;
@@ -228,7 +245,8 @@ module _ (p : PlainProgram) (limits : IsWithinLimits p) (fits : PlainFits p) whe
   abbrev PutsIfFit : Step → Type 0
   PutsIfFit s = StepFits p s → Inside s.action
 
-  puts-one : (a : Action) (r : ℕ) → stored_words p.lanes a ≡ [] → put_registers p.lanes a ≡ r ∷ [] → r < p.regs → Inside a
+  puts-one : (a : Action) (r : ℕ) → stored_words p.lanes a ≡ [] → put_registers p.lanes a ≡ r ∷ [] → r < p.regs →
+      Inside a
   puts-one a r none one low =
       record {
         stores = λ k has. absurd (Contains-nil k (subst (λ ks. Contains ks k) none has));
@@ -252,7 +270,8 @@ module _ (p : PlainProgram) (limits : IsWithinLimits p) (fits : PlainFits p) whe
   op-puts (plain.Tile r x) vs q n h fit =
       record {
         stores = λ k none. absurd (Contains-nil k none);
-        puts = λ k has. let item = range_item r p.lanes k has in let high = fit.registers.0 in omega (arith, item.1, high);
+        puts = λ k has. let item = range_item r p.lanes k has in let high = fit.registers.0 in omega
+            (arith, item.1, high);
       }
 
   all-inside : (steps : List Step) → All PutsIfFit steps → All (StepFits p) steps → All Inside (actions_of steps)
@@ -263,7 +282,8 @@ module _ (p : PlainProgram) (limits : IsWithinLimits p) (fits : PlainFits p) whe
 
   inside : (phase q : ℕ) → q < p.procs → All Inside (actions_in p phase q)
   inside phase q few =
-      all-inside (steps_of_phase p phase q) (each_step p PutsIfFit op-puts limits.statements phase q) (fits.each phase q few)
+      all-inside (steps_of_phase p phase q) (each_step p PutsIfFit op-puts limits.statements phase q)
+      (fits.each phase q few)
 
   -- ---- the program
 
@@ -277,15 +297,18 @@ module _ (p : PlainProgram) (limits : IsWithinLimits p) (fits : PlainFits p) whe
     known-here : (phase q : ℕ) → phase < length p.phases → q < p.procs →
         LoadKnown p.lanes (Known phase) (actions_in p phase q) × ReadPut p.lanes (λ r. ⊥) (actions_in p phase q)
     known-here phase q low few =
-        subst (λ actions. LoadKnown p.lanes (Known phase) actions × ReadPut p.lanes (λ r. ⊥) actions) (listed p phase q low few) (
-          lists.known-from (loaded_words p.lanes) (stored_words p.lanes) (Known phase) (acts code phase q) (λ n a e k has.
+        subst (λ actions. LoadKnown p.lanes (Known phase) actions × ReadPut p.lanes (λ r. ⊥) actions)
+        (listed p phase q low few) (
+          lists.known-from (loaded_words p.lanes) (stored_words p.lanes) (Known phase) (acts code phase q)
+              (λ n a e k has.
               ⊎_elim
               (λ (input : k < p.size). inl (inl input))
               (⊎_elim
               (λ (before : IsStoredBefore code phase k). inl (inr before))
               (λ (now : HaveStored p.lanes (take n (acts code phase q)) k). inr now))
               (fresh.loads phase q n a e k has)),
-          lists.known-from (read_registers p.lanes) (put_registers p.lanes) (λ r. ⊥) (acts code phase q) (λ n a e r has.
+          lists.known-from (read_registers p.lanes) (put_registers p.lanes) (λ r. ⊥) (acts code phase q)
+              (λ n a e r has.
               inr (fresh.reads phase q n a e r has)),
         )
 
@@ -302,7 +325,8 @@ module _ (p : PlainProgram) (limits : IsWithinLimits p) (fits : PlainFits p) whe
       long,
       λ k. ⊎_elim
           (λ (x : Marked marks k). x)
-          (λ (none : StoredFrom phase 0 q k). let low = none.1 in let high = none.2 in absurd (omega (arith, low, high))),
+          (λ (none : StoredFrom phase 0 q k). let low = none.1 in let high = none.2 in absurd
+          (omega (arith, low, high))),
     )
     processors-complete phase (suc n) q marks low all long known =
         let few : q < p.procs = omega (arith, all) in
@@ -317,17 +341,21 @@ module _ (p : PlainProgram) (limits : IsWithinLimits p) (fits : PlainFits p) whe
           registers = λ r none. absurd none;
         } in
         let one = list-complete p.lanes words p.regs actions m (Marked marks) (λ r. ⊥) (inside phase q few) cover
-        (lists.known-wider (loaded_words p.lanes) (stored_words p.lanes) (Known phase) (Marked marks) known actions here.0) here.1 in
+        (lists.known-wider (loaded_words p.lanes) (stored_words p.lanes) (Known phase) (Marked marks) known actions
+        here.0) here.1 in
         let next = (marks_after_all p.lanes actions m).words in
-        let covered : Cover words p.regs (λ k. Marked marks k ⊎ HaveStored p.lanes actions k) (λ r. ⊥ ⊎ HavePut p.lanes actions r) (marks_after_all p.lanes actions m) = one.1 in
-        let rest = processors-complete phase n (q + 1) next low (omega (arith, all)) covered.words-are (λ k x. covered.words k (inl (known k x))) in (
+        let covered : Cover words p.regs (λ k. Marked marks k ⊎ HaveStored p.lanes actions k)
+        (λ r. ⊥ ⊎ HavePut p.lanes actions r) (marks_after_all p.lanes actions m) = one.1 in
+        let rest = processors-complete phase n (q + 1) next low (omega (arith, all)) covered.words-are
+        (λ k x. covered.words k (inl (known k x))) in (
           ap₂ (λ (a b : Bool). a && b) one.0 rest.0,
           rest.1,
           λ k. ⊎_elim
               (λ (x : Marked marks k). rest.2 k (inl (covered.words k (inl x))))
               (λ (stored : StoredFrom phase (suc n) q k). ⊎_elim
               (λ (mine : stored.0 ≡ q).
-              rest.2 k (inl (covered.words k (inr (subst (λ r. HaveStored p.lanes (actions_in p phase r) k) mine stored.3)))))
+              rest.2 k (inl (covered.words k (inr (subst (λ r. HaveStored p.lanes (actions_in p phase r) k) mine
+              stored.3)))))
               (λ (other : stored.0 ≡ q → ⊥).
               let least = stored.1 in
               let most = stored.2 in
@@ -338,7 +366,8 @@ module _ (p : PlainProgram) (limits : IsWithinLimits p) (fits : PlainFits p) whe
     -- what is known where the next phase begins
     known-next : (phase k : ℕ) (marks after : List Bool) → phase < length p.phases →
         ((k : ℕ) → Known phase k → Marked marks k) →
-        ((k : ℕ) → Marked marks k ⊎ StoredFrom phase p.procs 0 k → Marked after k) → Known (phase + 1) k → Marked after k
+        ((k : ℕ) → Marked marks k ⊎ StoredFrom phase p.procs 0 k → Marked after k) → Known (phase + 1) k → Marked
+        after k
     known-next phase k marks after low known more (inl input) = more k (inl (known k (inl input)))
     known-next phase k marks after low known more (inr stored) =
         ⊎_elim
@@ -347,9 +376,16 @@ module _ (p : PlainProgram) (limits : IsWithinLimits p) (fits : PlainFits p) whe
         subst (λ f. HaveStored p.lanes (acts code f stored.1) k) here stored.3 in
         ⊎_elim
         (λ (few : stored.1 < p.procs).
-        more k (inr (stored.1, omega arith, omega (arith, few), subst (λ actions. HaveStored p.lanes actions k) (listed p phase stored.1 low few) h)))
+        more k (inr (
+          stored.1,
+          omega arith,
+          omega (arith, few),
+          subst (λ actions. HaveStored p.lanes actions k)
+              (listed p phase stored.1 low few) h,
+        )))
         (λ (past : p.procs ≤ stored.1).
-        absurd (Contains-nil k (subst (λ actions. HaveStored p.lanes actions k) (no_list_past_procs p phase stored.1 low past) h)))
+        absurd (Contains-nil k (subst (λ actions. HaveStored p.lanes actions k)
+        (no_list_past_procs p phase stored.1 low past) h)))
         (cases_lt stored.1 p.procs))
         (λ (before : stored.0 ≡ phase → ⊥).
         let earlier = stored.2 in
@@ -368,7 +404,8 @@ module _ (p : PlainProgram) (limits : IsWithinLimits p) (fits : PlainFits p) whe
         let low : phase < length p.phases = omega (arith, all) in
         let one = processors-complete phase p.procs 0 marks low (omega arith) long known in
         let after = words_after_processors p phase p.procs 0 marks in
-        let rest = phases-complete n (phase + 1) after (omega (arith, all)) one.1 (λ k x. known-next phase k marks after low known one.2 x) in
+        let rest = phases-complete n (phase + 1) after (omega (arith, all)) one.1
+        (λ k x. known-next phase k marks after low known one.2 x) in
         let same : phase + suc n ≡ phase + 1 + n = omega arith in (
           ap₂ (λ (a b : Bool). a && b) one.0 rest.0,
           λ k x. rest.1 k (subst (λ f. Known f k) same x),
@@ -393,11 +430,13 @@ module _ (p : PlainProgram) (limits : IsWithinLimits p) (fits : PlainFits p) whe
         let item = range_item (whole_lines p.size p.line) p.size k has in
         let stored = fresh.result (k - whole_lines p.size p.line) (omega (arith, item.0, item.1)) in
         let there : whole_lines p.size p.line + (k - whole_lines p.size p.line) ≡ k = omega (arith, item.0) in
-        let h : HaveStored p.lanes (acts code stored.0 stored.1) k = subst (HaveStored p.lanes (acts code stored.0 stored.1)) there stored.2 in
+        let h : HaveStored p.lanes (acts code stored.0 stored.1) k = subst
+        (HaveStored p.lanes (acts code stored.0 stored.1)) there stored.2 in
         ⊎_elim
         (λ (within : stored.0 < n). whole.1 k (inr (stored.0, stored.1, omega (arith, within), h)))
         (λ (past : n ≤ stored.0).
-        absurd (Contains-nil k (subst (λ actions. HaveStored p.lanes actions k) (no_list_past_phases p stored.0 stored.1 past) h)))
+        absurd (Contains-nil k (subst (λ actions. HaveStored p.lanes actions k)
+        (no_list_past_phases p stored.0 stored.1 past) h)))
         (cases_lt stored.0 n)))
 
 pub marks_decide : MarksDecide

@@ -11,7 +11,8 @@ invariant-body_reads_known-loop-stmt l = record {
   values : take l.depth l.values ≡ take l.depth l.fn.values;
   table : IsMarkTable (plain_program l.worker.program.now) l.table;
   walk : IsInBody (plain_program l.worker.program.now) l.worker.proc (plain_lives l.body)
-      (plain_lives (drop l.stmt-index l.body)) (take l.depth l.fn.values) l.depth (marks_of l.table) (marks_of l.fn.table);
+      (plain_lives (drop l.stmt-index l.body)) (take l.depth l.fn.values) l.depth (marks_of l.table)
+      (marks_of l.fn.table);
 }
 
 abbrev pub invariant-stmt_reads_known-loop-turn : goal.invariant-stmt_reads_known-loop-turn

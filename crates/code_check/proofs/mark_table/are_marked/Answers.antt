@@ -15,4 +15,5 @@ one_on marks count from place lt e =
 
 pub loop-place-preserved : goal.loop-place-preserved
 loop-place-preserved c =
-    c.loop-place.invariant ∙ one_on c.args.marks.now c.args.count c.args.from c.loop-place.place c.loop-place-test.true c.if-not-marks-from.false
+    c.loop-place.invariant ∙ one_on c.args.marks.now c.args.count c.args.from c.loop-place.place
+    c.loop-place-test.true c.if-not-marks-from.false
