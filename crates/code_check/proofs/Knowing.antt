@@ -1,5 +1,5 @@
 -- Walks over steps as far as they read what is known, of which some are left.
-use Rattle.std.proofs.Common.{◌≡◌, ℕ, suc, ◌+◌, ◌-◌, ◌<◌, ◌≤◌, ◌&&◌, List, [], ◌∷◌, ◌++◌, Bool, true, false, flat_map}
+use Rattle.std.proofs.Common.{◌≡◌, ℕ, suc, ◌+◌, ◌-◌, ◌<◌, ◌&&◌, List, [], ◌∷◌, ◌++◌, Bool, true, false, flat_map}
 use Rattle.std.proofs.Common.{All, length, drop, get_or, take, refl, sym, subst, ap, ◌∙◌, arith}
 use Rattle.std.proofs.Math.Bool.{and_assoc}
 use Rattle.std.proofs.lemmas.List.{map-append}
@@ -9,7 +9,7 @@ use Rattle.std.specs.List.{range_with_len}
 use Rattle.icode.specs.declared.action.Action.{Action}
 use Rattle.icode.specs.Actions.{Step, StepFits, actions_of, step_of, steps_of_body, steps_of_stmt}
 use Rattle.icode.specs.Limits.{is_body_within, is_stmt_within}
-use Rattle.icode.specs.Plain.{PlainBody, PlainOp, PlainProgram, PlainStmt, AndStmts, Do, Loop}
+use Rattle.icode.specs.Plain.{PlainBody, PlainOp, PlainProgram, PlainStmt, Do, Loop}
 use Rattle.icode.proofs.Bools.{both_true}
 use Rattle.code_check.specs.declared.live.Live.{Live}
 use Rattle.code_check.specs.Live.{plain_live, plain_lives}

@@ -9,7 +9,7 @@ use Rattle.icode.specs.Machine.{whole_lines}
 use Rattle.icode.specs.Plain.{PlainProgram}
 use Rattle.code_check.specs.declared.mark_table.MarkTable.{MarkTable}
 use Rattle.code_check.specs.MarkTables.{marks_of, IsMarkTable}
-use Rattle.code_check.specs.Marks.{Marks, are_marked, input_marks, is_fresh, marks_at, phases_known, processors_known}
+use Rattle.code_check.specs.Marks.{Marks, are_marked, is_fresh, marks_at, phases_known, processors_known}
 use Rattle.code_check.specs.Marks.{words_after_phases, words_after_processors}
 use Rattle.code_check.proofs.Knowing.{know, lead}
 

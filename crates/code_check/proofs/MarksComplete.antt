@@ -1,10 +1,9 @@
 -- The walk over a program that is fresh finds all that it reads marked.
 use Rattle.std.proofs.Common.{◌≡◌, ℕ, zero, suc, ◌+◌, ◌-◌, ◌*◌, ◌<◌, ◌≤◌, ◌⊎◌, ◌&&◌, List, [], ◌∷◌, Bool, true, false}
 use Rattle.std.proofs.Common.{length}
-use Rattle.std.proofs.Common.{inl, inr, ⊎_elim, refl, sym, ap, ap₂, ◌∙◌, subst, arith, All, Contains, flat_map, take}
-use Rattle.std.proofs.Common.{Some}
+use Rattle.std.proofs.Common.{inl, inr, ⊎_elim, refl, sym, ap₂, ◌∙◌, subst, arith, All, Contains, take}
 use Rattle.std.proofs.Common.{replicate, get_or-set_other, get_or-set_same, length-set}
-use Rattle.std.specs.Prelude.{slice_get, slice_index_or, slice_set}
+use Rattle.std.specs.Prelude.{slice_set}
 use Rattle.std.specs.List.{range_with_len}
 use Rattle.std.proofs.lemmas.Bool.{cases_eq, cases_lt}
 use Rattle.std.proofs.lemmas.List.{length-replicate}
@@ -16,7 +15,7 @@ use Rattle.icode.specs.Expression.{sum_numbers}
 use Rattle.icode.specs.Fresh.{HaveStored, HavePut, IsFresh, IsStoredBefore, loaded_words, read_registers}
 use Rattle.icode.specs.Fresh.{put_registers}
 use Rattle.icode.specs.Limits.{IsWithinLimits, is_op_within}
-use Rattle.icode.specs.Machine.{Code, acts, padded, stored_words, whole_lines}
+use Rattle.icode.specs.Machine.{Code, acts, stored_words, whole_lines}
 use Rattle.icode.specs.Plain.{PlainOp, PlainProgram}
 use Rattle.icode.specs.Plain as plain
 use Rattle.icode.proofs.FreshActions.{range_item, only_item}

@@ -1,5 +1,4 @@
-use Rattle.std.proofs.Common.{◌≡◌, ℕ, suc, ◌+◌, ◌-◌, ◌<◌, ◌&&◌, List, Bool, true, false, ap, ◌∙◌, arith}
-use Rattle.std.specs.Prelude.{not}
+use Rattle.std.proofs.Common.{◌≡◌, ℕ, suc, ◌+◌, ◌-◌, ◌<◌, ◌&&◌, List, Bool, true, ap, ◌∙◌, arith}
 use Rattle.code_check.specs.Marks.{are_marked, is_marked}
 use Rattle.code_check.proofs.mark_table.are_marked.Goals as goal
 
