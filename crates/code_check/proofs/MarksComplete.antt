@@ -1,33 +1,33 @@
 -- The walk over a program that is fresh finds all that it reads marked.
 use Rattle.std.proofs.Common.{◌≡◌, ℕ, zero, suc, ◌+◌, ◌-◌, ◌*◌, ◌<◌, ◌≤◌, ◌⊎◌, ◌&&◌, List, [], ◌∷◌, Bool, true, false}
-use Rattle.std.proofs.Common.{length}
+use Rattle.std.proofs.Common.{◌++◌, length}
 use Rattle.std.proofs.Common.{inl, inr, ⊎_elim, refl, sym, ap₂, ◌∙◌, subst, arith, All, Contains, take}
 use Rattle.std.proofs.Common.{replicate, get_or-set_other, get_or-set_same, length-set}
-use Rattle.std.specs.Prelude.{slice_set}
+use Rattle.std.specs.Prelude.{slice_index_or, slice_set}
 use Rattle.std.specs.List.{range_with_len}
 use Rattle.std.proofs.lemmas.Bool.{cases_eq, cases_lt}
 use Rattle.std.proofs.lemmas.List.{length-replicate}
 use Rattle.std.proofs.lemmas.List.Elements.{All-cons, All-head, All-nil, All-tail}
 use Rattle.icode.specs.declared.action.Action.{Action}
 use Rattle.icode.specs.declared.action.Action.TheVariants.{Load, Store, Zero, Add, Sub, Neg, Mul, Tile}
-use Rattle.icode.specs.Actions.{PlainFits, Step, StepFits, actions_of, plain_code, step_of, steps_of_phase}
+use Rattle.icode.specs.Actions.{PlainFits, Step, StepFits, actions_of, plain_code, step_of, steps_of_body}
+use Rattle.icode.specs.Actions.{steps_of_phase, steps_of_stmt}
 use Rattle.icode.specs.Expression.{sum_numbers}
 use Rattle.icode.specs.Fresh.{HaveStored, HavePut, IsFresh, IsStoredBefore, loaded_words, read_registers}
 use Rattle.icode.specs.Fresh.{put_registers}
-use Rattle.icode.specs.Limits.{IsWithinLimits, is_op_within}
 use Rattle.icode.specs.Machine.{Code, acts, stored_words, whole_lines}
-use Rattle.icode.specs.Plain.{PlainOp, PlainProgram}
+use Rattle.icode.specs.Plain.{PlainBody, PlainOp, PlainProgram, PlainStmt}
 use Rattle.icode.specs.Plain as plain
 use Rattle.icode.proofs.FreshActions.{range_item, only_item}
-use Rattle.icode.proofs.FreshCodes.{listed}
+use Rattle.icode.proofs.FreshCodes.{from_both, from_loop, from_one, listed}
 use Rattle.icode.proofs.FreshLists as lists
-use Rattle.icode.proofs.Lines.{Contains-head, Contains-nil, Contains-range}
+use Rattle.icode.proofs.Lines.{Contains-head, Contains-nil, Contains-range, Contains-tail}
 use Rattle.code_check.specs.Marks.{Marks, is_marked, are_marked, with_marks, reads_known, words_after, registers_after}
 use Rattle.code_check.specs.Marks.{marks_after, read_known, marks_after_all, actions_in, marks_at, processors_known}
 use Rattle.code_check.specs.Marks.{words_after_processors, phases_known, words_after_phases, input_marks, is_fresh}
 use Rattle.code_check.specs.Laws.{MarksDecide}
 use Rattle.code_check.proofs.Marks.{Marked, LoadKnown, ReadPut, is-fresh, size_room}
-use Rattle.code_check.proofs.Regular.{array_inside, each_step}
+use Rattle.code_check.proofs.Regular.{array_inside}
 use Rattle.code_check.proofs.Tables.{no_list_past_procs, no_list_past_phases}
 
 -- ---- marks
@@ -234,7 +234,7 @@ module _ (lanes words regs : ℕ) where
 
 -- ---- steps that fit
 
-module _ (p : PlainProgram) (limits : IsWithinLimits p) (fits : PlainFits p) where
+module _ (p : PlainProgram) (fits : PlainFits p) where
   abbrev words : ℕ
   words = 4 * whole_lines p.size p.line
 
@@ -252,36 +252,50 @@ module _ (p : PlainProgram) (limits : IsWithinLimits p) (fits : PlainFits p) whe
         puts = λ k has. subst (λ k. k < p.regs) (only_item r k (subst (λ ks. Contains ks k) one has)) low;
       }
 
-  op-puts : (op : PlainOp) (vs : List ℕ) (q n : ℕ) → is_op_within p.modulus op n ≡ true → PutsIfFit (step_of p op vs q)
-  op-puts (plain.Load r array place) vs q n h fit = puts-one _ r refl refl fit.registers
-  op-puts (plain.Store array place r) vs q n h fit =
+  op-puts : (op : PlainOp) (vs : List ℕ) (q : ℕ) → PutsIfFit (step_of p op vs q)
+  op-puts (plain.Load r array place) vs q fit = puts-one _ r refl refl fit.registers
+  op-puts (plain.Store array place r) vs q fit =
       let inside = array_inside (whole_lines p.size p.line) (sum_numbers place vs q).value p.lanes array fit.place in
       record {
         stores = λ k has. let item = range_item _ p.lanes k has in omega (arith, item.1, inside);
         puts = λ r none. absurd (Contains-nil r none);
       }
-  op-puts (plain.Zero r) vs q n h fit = puts-one _ r refl refl fit.registers
-  op-puts (plain.Add r x y) vs q n h fit = puts-one _ r refl refl fit.registers.0
-  op-puts (plain.Sub r x y) vs q n h fit = puts-one _ r refl refl fit.registers.0
-  op-puts (plain.Neg r x) vs q n h fit = puts-one _ r refl refl fit.registers.0
-  op-puts (plain.MulConst r x factor) vs q n h fit = puts-one _ r refl refl fit.registers.0
-  op-puts (plain.MulTable r x table place step) vs q n h fit = puts-one _ r refl refl fit.registers.0
-  op-puts (plain.Tile r x) vs q n h fit =
+  op-puts (plain.Zero r) vs q fit = puts-one _ r refl refl fit.registers
+  op-puts (plain.Add r x y) vs q fit = puts-one _ r refl refl fit.registers.0
+  op-puts (plain.Sub r x y) vs q fit = puts-one _ r refl refl fit.registers.0
+  op-puts (plain.Neg r x) vs q fit = puts-one _ r refl refl fit.registers.0
+  op-puts (plain.MulConst r x factor) vs q fit = puts-one _ r refl refl fit.registers.0
+  op-puts (plain.MulTable r x table place step) vs q fit = puts-one _ r refl refl fit.registers.0
+  op-puts (plain.Tile r x) vs q fit =
       record {
         stores = λ k none. absurd (Contains-nil k none);
         puts = λ k has. let item = range_item r p.lanes k has in let high = fit.registers.0 in omega
             (arith, item.1, high);
       }
 
-  all-inside : (steps : List Step) → All PutsIfFit steps → All (StepFits p) steps → All Inside (actions_of steps)
+  mutual
+    stmt-puts : (s : PlainStmt) (vs : List ℕ) (q : ℕ) (x : Step) → Contains (steps_of_stmt p s vs q) x → PutsIfFit x
+    stmt-puts (plain.Loop count body) vs q =
+        from_loop PutsIfFit (λ i. steps_of_body p body (vs ++ i ∷ []) q) (range_with_len 0 count)
+        (λ i. body-puts body (vs ++ i ∷ []) q)
+    stmt-puts (plain.Do op) vs q = from_one PutsIfFit (step_of p op vs q) (op-puts op vs q)
+
+    body-puts : (body : PlainBody) (vs : List ℕ) (q : ℕ) (x : Step) → Contains (steps_of_body p body vs q) x → PutsIfFit x
+    body-puts plain.NoStmts vs q = λ x none. absurd (Contains-nil x none)
+    body-puts (plain.AndStmts s rest) vs q =
+        from_both PutsIfFit (steps_of_stmt p s vs q) (steps_of_body p rest vs q) (stmt-puts s vs q) (body-puts rest vs q)
+
+  all-inside : (steps : List Step) → ((s : Step) → Contains steps s → PutsIfFit s) → All (StepFits p) steps →
+      All Inside (actions_of steps)
   all-inside [] puts fit = All-nil Inside
   all-inside (s ∷ steps) puts fit =
-      All-cons Inside s.action (actions_of steps) (All-head PutsIfFit s steps puts (All-head (StepFits p) s steps fit))
-      (all-inside steps (All-tail PutsIfFit s steps puts) (All-tail (StepFits p) s steps fit))
+      All-cons Inside s.action (actions_of steps)
+      (puts s (Contains-head s steps) (All-head (StepFits p) s steps fit))
+      (all-inside steps (λ x has. puts x (Contains-tail s steps x has)) (All-tail (StepFits p) s steps fit))
 
   inside : (phase q : ℕ) → q < p.procs → All Inside (actions_in p phase q)
   inside phase q few =
-      all-inside (steps_of_phase p phase q) (each_step p PutsIfFit op-puts limits.statements phase q)
+      all-inside (steps_of_phase p phase q) (body-puts (slice_index_or p.phases phase plain.NoStmts) [] q)
       (fits.each phase q few)
 
   -- ---- the program
@@ -439,5 +453,4 @@ module _ (p : PlainProgram) (limits : IsWithinLimits p) (fits : PlainFits p) whe
         (cases_lt stored.0 n)))
 
 pub marks_decide : MarksDecide
-marks_decide p limits fits apart =
-    let line = limits.header.of_line.0 in (is-fresh p line apart, λ fresh. fresh-is p limits fits fresh line)
+marks_decide p line fits apart = (is-fresh p line apart, λ fresh. fresh-is p fits fresh line)

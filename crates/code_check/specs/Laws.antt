@@ -1,5 +1,5 @@
 -- The statements of the laws.
-use Rattle.std.specs.Prelude.{◌≡◌, ◌≢◌, ◌⊎◌, ◌↔◌, ℕ, List, [], IsTrue}
+use Rattle.std.specs.Prelude.{◌≡◌, ◌≢◌, ◌≤◌, ◌⊎◌, ◌↔◌, ℕ, List, [], IsTrue}
 use Rattle.icode.specs.declared.program.Program.{Program}
 use Rattle.icode.specs.Actions.{PlainFits, plain_code}
 use Rattle.icode.specs.Fresh.{IsFresh}
@@ -39,5 +39,5 @@ PassedFits =
 -- writes in the phase
 abbrev pub MarksDecide : Type 0
 MarksDecide =
-    (p : PlainProgram) → IsWithinLimits p → PlainFits p → ((phase : ℕ) → IsApart (plain_code p) phase) →
+    (p : PlainProgram) → 1 ≤ p.line → PlainFits p → ((phase : ℕ) → IsApart (plain_code p) phase) →
     IsTrue (is_fresh p) ↔ IsFresh (plain_code p)
