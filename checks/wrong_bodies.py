@@ -326,8 +326,9 @@ def main():
             sys.exit(f"a library below {crate.name} is not proved")
         if new:
             given = (Trial(rt, crate, new), kept, places, store)
-            # (under this word rt gives a task the processors that no other needs)
-            tasks[crate.name, "seed"] = [], crate.count(rb"\n"), rt.need(crate), lambda _, jobs, given=given: work(*given, jobs)
+            # (under this word rt gives a task the processors that no other needs; of the memory of a whole check they take two thirds at most)
+            needs = rt.OVER * rt.need(crate)
+            tasks[crate.name, "seed"] = [], crate.count(rb"\n"), needs, lambda _, jobs, given=given: work(*given, jobs)
     verdicts = [it for some in rt.in_lanes(tasks).values() for it in some]
     refused += sum(verdicts)
     print(f"{refused} refused, {len(verdicts) - sum(verdicts)} not")
