@@ -3,7 +3,7 @@
  * then the first one phase by phase, with a thread for each processor. Reads vectors of numbers from standard input, and
  * writes the line of each result. The three results have to be the same.
  *
- * examples/compile_named.sh says with which macros it is compiled.
+ * checks/compile_named.sh says with which macros it is compiled.
  */
 #include <inttypes.h>
 #include <pthread.h>
