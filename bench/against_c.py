@@ -1,27 +1,29 @@
-"""Nanoseconds of processor time for each action of `run`, beside those of the same program as C text by gcc -O2.
+#!/usr/bin/env python3
+"""Nanoseconds of processor time for each action of `run`, beside those of the same program as C text by gcc -O2. It judges nothing.
 
-The first argument is the built program. Further arguments are C texts by which `spiral c` is replaced, one for each request.
+    bench/against_c.py [TEXT ..]     with C texts by which those of `spiral c` are replaced, one for each request
 """
 import os
-import re
 import resource
 import subprocess
 import sys
 import tempfile
 
-from listing import actions
-
 HERE = os.path.dirname(os.path.abspath(__file__))
-PROGRAM = sys.argv[1]
-TEXTS = sys.argv[2:]
+sys.path.insert(0, f"{HERE}/../examples")
 
-# each with the number of vectors for the machine and of runs for C
+from listing import action_count, read_listing  # noqa: E402
+
+PROGRAM = subprocess.check_output([f"{HERE}/../bin/build", "spiral"], text=True).strip()
+TEXTS = sys.argv[1:]
+
+# each with the number of vectors for the machine
 REQUESTS = [
-    ("dft 64 mod 12289 root 7311", 2000, 2000),
-    ("dft 1024 mod 12289 root 10302", 100, 200),
-    ("dft 1024 mod 12289 root 10302 unroll 2", 50, 100),
-    ("dft 211 mod 4643 root 4", 20, 20),
-    ("dft 64 mod 4611686018427387329 root 424145772315861915", 2000, 2000),
+    ("dft 64 mod 12289 root 7311", 2000),
+    ("dft 1024 mod 12289 root 10302", 100),
+    ("dft 1024 mod 12289 root 10302 unroll 2", 50),
+    ("dft 211 mod 4643 root 4", 20),
+    ("dft 64 mod 4611686018427387329 root 424145772315861915", 2000),
 ]
 
 
@@ -36,18 +38,15 @@ def spiral(command, text):
     return done.stdout.decode(), seconds
 
 
-def nanoseconds_of_c(text, repeats):
+def nanoseconds_of_c(text):
     """Of one run of all phases on all processors."""
-    procs = re.search(r" procs (\d+) ", text).group(1)
-    phases = ",".join(re.findall(r"^void (phase\d+)", text, re.M))
     with tempfile.TemporaryDirectory() as folder:
         source, program = os.path.join(folder, "text.c"), os.path.join(folder, "text")
         with open(source, "w") as file:
             file.write(text)
-        subprocess.run(
-            ["gcc", "-O2", "-w", f'-DTEXT="{source}"', f"-DPROCS={procs}", f"-DREPEATS={repeats}",
-             f"-DPHASES={phases}", os.path.join(HERE, "repeat.c"), "-o", program], check=True)
-        return min(float(subprocess.run([program], capture_output=True, check=True).stdout) for _ in range(3))
+        by_race = {**os.environ, "DRIVER": f"{HERE}/race_text.c"}
+        subprocess.run([f"{HERE}/../examples/compile.sh", source, program, "gcc", "-O2", "-w"], env=by_race, check=True)
+        return min(float(subprocess.check_output([program])) for _ in range(3))
 
 
 def nanoseconds_of_machine(request, count):
@@ -60,15 +59,15 @@ def nanoseconds_of_machine(request, count):
 
 
 def main():
-    for number, (request, count, repeats) in enumerate(REQUESTS):
-        each = actions(spiral("code", request + "\n")[0])
+    for number, (request, count) in enumerate(REQUESTS):
+        each = sum(map(action_count, read_listing(spiral("code", request + "\n")[0]).phases))
         if number < len(TEXTS):
             with open(TEXTS[number]) as file:
                 text = file.read()
         else:
             text = spiral("c", request + "\n")[0]
         machine = nanoseconds_of_machine(request, count) / each
-        c = nanoseconds_of_c(text, repeats) / each
+        c = nanoseconds_of_c(text) / each
         print(f"{request}: {machine:.1f} ns for each action of run, {c:.2f} ns in C, {machine / c:.1f} times")
 
 

@@ -1,18 +1,24 @@
-"""Nanoseconds of transforms as fast C text, as specified C text and by peers, in one run, and their ratios.
+#!/usr/bin/env python3
+"""Prints what transforms take as fast C text and as specified C text, beside NTL, FLINT's fft_small and a textbook transform, in one run:
+nanoseconds, and the ratio to the first peer that is there. It judges nothing.
 
-The first two arguments are the built programs; further ones are sizes. A peer that is not installed is skipped with a
-word. Each time is the least of some rounds in which all programs of a row run in turn.
+    bench/against_peers.py [SIZE ..]
+
+A peer that is not installed is skipped with a word. Each time is the least of some rounds in which all programs of a row run in turn.
 """
 import os
-import re
 import shutil
 import subprocess
 import sys
 import tempfile
 
 HERE = os.path.dirname(os.path.abspath(__file__))
-SPIRAL, FAST, *SIZES = sys.argv[1:]
-SIZES = [int(size) for size in SIZES] or [64, 1024, 4096, 65536]
+SPIRAL, FAST = (subprocess.check_output([f"{HERE}/../bin/build", name], text=True).strip() for name in ("spiral", "spiral_fast"))
+SIZES = [int(size) for size in sys.argv[1:]] or [64, 1024, 4096, 65536]
+sys.path.insert(0, f"{HERE}/../examples")
+
+from choose import roots_of  # noqa: E402
+
 ROUNDS = 25
 NATIVE = ["-O3", "-march=native"]
 # How Clang orders instructions: first by how many can go side by side.
@@ -31,27 +37,15 @@ MODULI = [
 ]
 
 
-def prime_factors(n):
-    return {d for d in range(2, n + 1) if n % d == 0 and all(d % e for e in range(2, d))}
-
-
-def root_of_prime(size, prime):
-    """A root of unity whose order is the size."""
-    for base in range(2, prime):
-        root = pow(base, (prime - 1) // size, prime)
-        if all(pow(root, size // q, prime) != 1 for q in prime_factors(size)):
-            return root
-
-
 def has_roots(size, primes):
     return all((prime - 1) % size == 0 for prime in primes)
 
 
 def modulus_and_root(size, primes):
     """Roots of several primes are joined by the Chinese remainder theorem."""
-    modulus, root = primes[0], root_of_prime(size, primes[0])
+    modulus, root, *_ = roots_of(size, primes[0])
     for prime in primes[1:]:
-        other = root_of_prime(size, prime)
+        other = roots_of(size, prime)[1]
         root += modulus * ((other - root) * pow(modulus, -1, prime) % prime)
         modulus *= prime
     return modulus, root
@@ -80,28 +74,25 @@ class Race:
             self.skipped.add(word)
             print(f"skipped: {word}")
 
-    def compiled(self, compiler, source, *flags):
-        """The program, or none where compiler, headers or library are not there."""
+    def compiled(self, compiler, words):
+        """The program that these words make, or none where compiler, headers or library are not there."""
         if not shutil.which(compiler):
             self.skip(f"{compiler} is not here")
             return None
-        program = os.path.join(self.folder, f"program{len(self.entries)}{os.path.basename(source)}")
-        done = subprocess.run([compiler, "-w", source, "-o", program, f"-I{HERE}", *flags], capture_output=True)
+        program = os.path.join(self.folder, f"program{len(self.entries)}")
+        done = subprocess.run([word or program for word in words], capture_output=True, env={**os.environ, "DRIVER": f"{HERE}/race_text.c"})
         return program if done.returncode == 0 else None
 
     def text(self, name, compiler, text, *flags):
         source = os.path.join(self.folder, f"text{len(self.entries)}.c")
         with open(source, "w") as file:
             file.write(text)
-        size, procs = (re.search(rf" {word} (\d+) ", text).group(1) for word in ("size", "procs"))
-        phases = ",".join(re.findall(r"^void (phase\d+)", text, re.M))
-        program = self.compiled(compiler, os.path.join(HERE, "race_text.c"), f'-DTEXT="{source}"', f"-DSIZE={size}",
-                                f"-DPROCS={procs}", f"-DPHASES={phases}", *flags)
+        program = self.compiled(compiler, [f"{HERE}/../examples/compile.sh", source, None, compiler, "-w", *flags])
         if program:
             self.entries.append((name, [program]))
 
     def peer(self, name, compiler, source, flags, words):
-        program = self.compiled(compiler, os.path.join(HERE, source), *flags)
+        program = self.compiled(compiler, [compiler, "-w", f"{HERE}/{source}", "-o", None, *flags])
         if not program:
             self.skip(f"{name} is not here")
         elif subprocess.run([program, *words], capture_output=True).returncode == 0:

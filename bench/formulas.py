@@ -1,9 +1,14 @@
-"""Times `compile` on the largest formulas: formulas.py PROGRAM [NAME ..], a line for each."""
+#!/usr/bin/env python3
+"""Times `compile` on the largest formulas, a line for each. It judges nothing.
+
+    bench/formulas.py [NAME ..]
+"""
 import os
 import subprocess
 import sys
 import tempfile
 
+TOP = os.path.dirname(os.path.dirname(os.path.abspath(__file__)))
 LONGEST = 65536
 
 
@@ -87,7 +92,8 @@ def measured(program, text):
 
 
 def main():
-    program, names = sys.argv[1], sys.argv[2:] or list(FORMULAS)
+    program = subprocess.check_output([f"{TOP}/bin/build", "spiral"], text=True).strip()
+    names = sys.argv[1:] or list(FORMULAS)
     for name in names:
         text = FORMULAS[name]()
         if len(text) > LONGEST:

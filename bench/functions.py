@@ -3,8 +3,7 @@
 
     functions.py [COMPILER [FLAG ..]]     clang -O3 -march=native, if nothing is named
 
-Each time is the least of some rounds in which both run in turn. SPIRAL and SPIRAL_FAST name the programs (bin/spiral,
-bin/spiral-fast).
+Each time is the least of some rounds in which both run in turn.
 """
 
 import os
@@ -15,8 +14,7 @@ import tempfile
 
 HERE = os.path.dirname(os.path.abspath(__file__))
 TOP = os.path.dirname(HERE)
-SPIRAL = os.environ.get("SPIRAL", f"{TOP}/bin/spiral")
-FAST = os.environ.get("SPIRAL_FAST", f"{TOP}/bin/spiral-fast")
+os.environ["PATH"] = f"{TOP}/bin{os.pathsep}{os.environ['PATH']}"
 ROUNDS = 25
 REQUESTS = [
     "dft 1024 mod 1152921504606830593 root 984081769261068913",
@@ -39,10 +37,8 @@ def write(path, text):
 
 def text_program(folder, compiler, text):
     write(f"{folder}/text.c", text)
-    size, procs = (re.search(rf" {word} (\d+) ", text)[1] for word in ("size", "procs"))
-    phases = ",".join(re.findall(r"^void (phase\d+)", text, re.M))
-    macros = [f'-DTEXT="{folder}/text.c"', f"-DSIZE={size}", f"-DPROCS={procs}", f"-DPHASES={phases}"]
-    output([*compiler, "-w", *macros, f"{HERE}/race_text.c", "-o", f"{folder}/text"])
+    os.environ["DRIVER"] = f"{HERE}/race_text.c"
+    output([f"{TOP}/examples/compile.sh", f"{folder}/text.c", f"{folder}/text", *compiler, "-w"])
     return f"{folder}/text"
 
 
@@ -65,12 +61,12 @@ def main():
     compiler = sys.argv[1:] or ["clang", "-O3", "-march=native"]
     with tempfile.TemporaryDirectory() as folder:
         for request in REQUESTS:
-            text = output([SPIRAL, "c"], request + "\n")
+            text = output(["spiral", "c"], request + "\n")
             made = [output([f"{TOP}/examples/library.py", "forward", *h], text) for h in ([], ["--header"])]
             race(f"c, {request}", [text_program(folder, compiler, text), function_program(folder, compiler, *made)])
-            listing = output([SPIRAL, "code"], request + "\n")
-            text = output([FAST], listing)
-            made = [output([FAST, "--name", "forward", *h], listing) for h in ([], ["--header"])]
+            listing = output(["spiral", "code"], request + "\n")
+            text = output(["spiral-fast"], listing)
+            made = [output(["spiral-fast", "--name", "forward", *h], listing) for h in ([], ["--header"])]
             race(f"fast, {request}", [text_program(folder, compiler, text), function_program(folder, compiler, *made)])
 
 

@@ -1,23 +1,27 @@
-"""Measures the built program, whose path is the first argument."""
+#!/usr/bin/env python3
+"""Prints what the built program takes: start-up, time for each action of `run`, data read, and peak memory. It judges nothing.
+Figures of one machine and one day stand in docs/SPEED.md.
+
+    bench/measure.py
+"""
+import os
 import random
 import subprocess
 import sys
 import tempfile
 import time
 
-from listing import actions
-
-PROGRAM = sys.argv[1]
+TOP = os.path.dirname(os.path.dirname(os.path.abspath(__file__)))
+PROGRAM = subprocess.check_output([f"{TOP}/bin/build", "spiral"], text=True).strip()
 MODULUS = 12289
-GENERATOR = 11  # a primitive root modulo 12289
+sys.path.insert(0, f"{TOP}/examples")
 
-
-def root(size):
-    return pow(GENERATOR, (MODULUS - 1) // size, MODULUS)
+from choose import roots_of  # noqa: E402
+from listing import action_count, read_listing  # noqa: E402
 
 
 def request(size):
-    return f"dft {size} mod {MODULUS} root {root(size)}\n"
+    return f"dft {size} mod {MODULUS} root {roots_of(size, MODULUS)[1]}\n"
 
 
 def run(command, text):
@@ -73,7 +77,7 @@ def main():
         none = best("run", request(size))
         many = best("run", request(size) + vectors(size, count))
         each = (many - none) / count
-        number = actions(listing(request(size)))
+        number = sum(map(action_count, read_listing(listing(request(size))).phases))
         print(f"run of dft {size}: {each * 1e6:.0f} us for each vector of {number} actions, data and lines with them")
     for text in (f"dft 65536 mod 65537 root 3\n", "wht 65536 mod 65537\n"):
         print(f"code of {text.strip()}: {best('code', text) * 1000:.0f} ms")

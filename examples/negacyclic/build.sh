@@ -3,7 +3,7 @@
 # usage: build.sh SIZE M 'WORDS OF THE REQUEST' PROGRAM [FLAG ..]
 #        build.sh kyber PROGRAM [FLAG ..]
 #   build.sh 1024 12289 'lanes 8 unroll 16' falcon -O3 -march=native
-# SPIRAL, SPIRAL_FAST and CC name the programs (bin/spiral, bin/spiral-fast) and the compiler (cc).
+# The programs are `spiral` and `spiral-fast` of the path, or else of bin/. CC names the compiler (cc).
 set -euo pipefail
 if [ "${1:-}" = kyber ] && [ $# -ge 2 ]; then
   program=$2 kyber=-DKYBER
@@ -16,18 +16,15 @@ else
   exit 2
 fi
 here=$(cd "$(dirname "$0")" && pwd)
-spiral=${SPIRAL:-$here/../../bin/spiral}
-fast=${SPIRAL_FAST:-$here/../../bin/spiral-fast}
+PATH=$PATH:$here/../../bin
 folder=$program.texts
 mkdir -p "$folder"
 for name in forward back; do
   if [ -n "$kyber" ]; then
-    "$here/kyber.py" "$name" | "$spiral" compile --mod 3329 >"$folder/$name.listing"
+    "$here/kyber.py" "$name" | spiral compile --mod 3329
   else
-    "$here/negacyclic.py" "$name" "$size" "$modulus" "$words" >"$folder/$name.listing"
-  fi
-  "$fast" --name "$name" <"$folder/$name.listing" >"$folder/$name.c"
-  "$fast" --name "$name" --header <"$folder/$name.listing" >"$folder/$name.h"
+    "$here/negacyclic.py" "$name" "$size" "$modulus" "$words"
+  fi | "$here/../function.sh" "$folder/$name"
 done
 word=$(sed -n 's/^void forward(\(uint[0-9]*_t\) .*/\1/p' "$folder/forward.h")
 exec "${CC:-cc}" -std=gnu11 -Wall -Wextra -Werror -Wno-psabi "${@:--O2}" ${kyber:+"$kyber"} -DWORD="$word" \

@@ -6,7 +6,7 @@
 
 M is a prime with 2 * SIZE dividing it less one, the twist that of `choose.py SIZE mod M`, and WORDS are further words
 of the request, as 'lanes 8 unroll 16'. What forward makes of two polynomials is multiplied place by place, and back
-makes of it their product modulo x^SIZE + 1. SPIRAL names the program (bin/spiral).
+makes of it their product modulo x^SIZE + 1. The program is the `spiral` of the path, or else bin/spiral.
 """
 
 import argparse
@@ -17,16 +17,16 @@ import sys
 from twist import twisted
 
 HERE = os.path.dirname(os.path.abspath(__file__))
-SPIRAL = os.environ.get("SPIRAL", f"{HERE}/../../bin/spiral")
-sys.path.insert(0, f"{HERE}/../product")
+os.environ["PATH"] += f"{os.pathsep}{HERE}/../../bin"
+sys.path.insert(0, f"{HERE}/..")
 
 from choose import roots_of  # noqa: E402
 
 
 def code(request):
-    done = subprocess.run([SPIRAL, "code"], input=request + "\n", capture_output=True, text=True)
+    done = subprocess.run(["spiral", "code"], input=request + "\n", stdout=subprocess.PIPE, text=True)
     if done.returncode != 0:
-        sys.exit(f"negacyclic.py: `{request}`: {done.stderr.strip()}")
+        sys.exit(f"negacyclic.py: spiral does not take `{request}`")
     return done.stdout
 
 

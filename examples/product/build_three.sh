@@ -4,16 +4,15 @@
 #   build_three.sh 32768 'lanes 8 unroll 16' three -O3 -march=native
 # Two integers of together at most SIZE limbs of 64 bits can be multiplied. BITS=52 takes words of 52 bits, not 64,
 # which are faster where the processor multiplies 52-bit numbers (AVX-512 IFMA). LANES=8 makes eight lanes of the
-# loops of requests without lanes. SPIRAL, SPIRAL_FAST and CC name the programs (bin/spiral, bin/spiral-fast) and the
-# compiler (cc). MAIN names the main file, if not main.c.
+# loops of requests without lanes. The programs are `spiral` and `spiral-fast` of the path, or else of bin/. CC names the
+# compiler (cc), and MAIN the main file, if not main.c.
 set -euo pipefail
 if [ $# -lt 3 ]; then
   sed -n '3s/^# //p' "$0" >&2
   exit 2
 fi
 here=$(cd "$(dirname "$0")" && pwd)
-spiral=${SPIRAL:-$here/../../bin/spiral}
-fast=${SPIRAL_FAST:-$here/../../bin/spiral-fast}
+PATH=$PATH:$here/../../bin
 size=$1 words=$2 program=$3
 shift 3
 folder=$program.texts
@@ -21,12 +20,11 @@ mkdir -p "$folder"
 
 # text NAME ROOT: a function and its header
 text() {
-  echo "dft $size mod $modulus root $2${words:+ $words}" | "$spiral" code >"$folder/listing"
-  "$fast" --words "${BITS:-64}" ${LANES:+--lanes "$LANES"} --name "$1" <"$folder/listing" >"$folder/$1.c"
-  "$fast" --words "${BITS:-64}" ${LANES:+--lanes "$LANES"} --name "$1" --header <"$folder/listing" >"$folder/$1.h"
+  echo "dft $size mod $modulus root $2${words:+ $words}" | spiral code |
+    "$here/../function.sh" "$folder/$1" --words "${BITS:-64}" ${LANES:+--lanes "$LANES"}
 }
 
-chosen=$(python3 "$here/choose.py" "$size" 50 3)
+chosen=$(python3 "$here/../choose.py" "$size" 50 3)
 number=0
 while read -r modulus root _; do
   text "forward$number" "$root"

@@ -2,22 +2,22 @@
 """Multiplies integers by `spiral convolve`: their digits are the two lists, and the carries come at the end.
 
     by_convolve.py ONE OTHER     two numbers in hexadecimal digits; writes their product
-    by_convolve.py               compares some products with Python's own
 
-SPIRAL names the program (bin/spiral).
+The program is the `spiral` of the path, or else bin/spiral.
 """
 
 import argparse
 import os
-import random
 import subprocess
 import sys
 from array import array
 
-from choose import choose
-
 HERE = os.path.dirname(os.path.abspath(__file__))
-SPIRAL = os.environ.get("SPIRAL", f"{HERE}/../../bin/spiral")
+os.environ["PATH"] += f"{os.pathsep}{HERE}/../../bin"
+sys.path.insert(0, f"{HERE}/..")
+
+from choose import choose  # noqa: E402
+
 DIGIT = 16  # bits: no sum of 65,536 products of digits reaches the moduli of 62 bits
 
 
@@ -29,7 +29,7 @@ def digits(number, count):
 def convolved(line, *lists):
     """What the program makes of the lists after the first."""
     text = "\n".join([line, *(" ".join(map(str, values)) for values in lists)])
-    done = subprocess.run([SPIRAL, "convolve"], input=text, capture_output=True, text=True, check=True)
+    done = subprocess.run(["spiral", "convolve"], input=text, stdout=subprocess.PIPE, text=True, check=True)
     return [list(map(int, answer.split())) for answer in done.stdout.splitlines()]
 
 
@@ -50,28 +50,12 @@ def hexadecimal(text):
     return int(text, 16)
 
 
-def compared():
-    """Some products, compared with Python's own; gives how many."""
-    rng, total = random.Random(7), 0
-    for bits in (1, 16, 17, 100, 1000, 9000, 60000):
-        one = (1 << bits) - 1
-        others = [rng.getrandbits(bits), one, 1 << (bits - 1), 1, 0]
-        assert products(one, others) == [one * other for other in others], bits
-        total += len(others)
-    return total
-
-
 def main():
-    usage = "by_convolve.py [ONE OTHER]"
-    parser = argparse.ArgumentParser(usage=usage, description=__doc__, formatter_class=argparse.RawTextHelpFormatter)
-    parser.add_argument("numbers", type=hexadecimal, nargs="*", metavar="NUMBER", help="hexadecimal digits")
-    numbers = parser.parse_args().numbers
-    if len(numbers) == 2:
-        print(f"{products(numbers[0], numbers[1:])[0]:x}")
-    elif numbers:
-        parser.error("it wants two numbers, or none")
-    else:
-        print(f"products by convolve: {compared()} right")
+    parser = argparse.ArgumentParser(description=__doc__, formatter_class=argparse.RawTextHelpFormatter)
+    for name in ("ONE", "OTHER"):
+        parser.add_argument(name, type=hexadecimal, help="hexadecimal digits")
+    words = parser.parse_args()
+    print(f"{products(words.ONE, [words.OTHER])[0]:x}")
 
 
 if __name__ == "__main__":

@@ -1,10 +1,9 @@
 #!/usr/bin/env python3
 """Compares products modulo x^n + 1 with their definition, by listings that `spiral exec` verifies and by C.
 
-    check.py
+    checks/negacyclic_products.py
 
-Kyber's transform is compared with the remainders that define it, forward, back and for products. SPIRAL, SPIRAL_FAST
-and CC name the programs (bin/spiral, bin/spiral-fast) and the compiler (cc).
+Kyber's transform is compared with the remainders that define it, forward, back and for products. CC names the compiler (cc).
 """
 
 import os
@@ -14,14 +13,17 @@ import sys
 import tempfile
 from operator import mul
 
-from kyber import MODULUS as KYBER_MODULUS
-from kyber import SIZE as KYBER_SIZE
-from kyber import ZETA, transform
-from negacyclic import SPIRAL, listing
-from residues import join
+TOP = os.path.dirname(os.path.dirname(os.path.abspath(__file__)))
+EXAMPLE = f"{TOP}/examples/negacyclic"
+os.environ["PATH"] = f"{TOP}/bin{os.pathsep}{os.environ['PATH']}"
+sys.path.insert(0, EXAMPLE)
 
-HERE = os.path.dirname(os.path.abspath(__file__))
-FAST = os.environ.get("SPIRAL_FAST", f"{HERE}/../../bin/spiral-fast")
+from kyber import MODULUS as KYBER_MODULUS  # noqa: E402
+from kyber import SIZE as KYBER_SIZE  # noqa: E402
+from kyber import ZETA, transform  # noqa: E402
+from negacyclic import listing  # noqa: E402
+from residues import join  # noqa: E402
+
 SIXTY_BITS = 1152921504606748673
 PRIMES = (1152921504606830593, 1152921504606791681, SIXTY_BITS)
 LISTINGS = [  # size, modulus, further words of the request
@@ -38,7 +40,7 @@ PROGRAMS = [(4, 12289, ""), (1024, 12289, "lanes 8"), (256, 8380417, ""), (4096,
 def output(words, text):
     done = subprocess.run(words, input=text, capture_output=True, text=True)
     if done.returncode != 0:
-        sys.exit(f"negacyclic/check.py: {' '.join(words)}: status {done.returncode}\n{done.stderr}")
+        sys.exit(f"negacyclic_products: {' '.join(words)}: status {done.returncode}\n{done.stderr}")
     return done.stdout
 
 
@@ -70,11 +72,11 @@ def pairs(size, modulus):
 
 def check(condition, what):
     if not condition:
-        sys.exit(f"negacyclic/check.py: {what} differs")
+        sys.exit(f"negacyclic_products: {what} differs")
 
 
 def exec_listing(text, vectors):
-    return read_vectors(output([SPIRAL, "exec"], f"{text}\n{lines(vectors)}"))
+    return read_vectors(output(["spiral", "exec"], f"{text}\n{lines(vectors)}"))
 
 
 def products_by_listings(given, modulus, words):
@@ -122,7 +124,7 @@ def products_of_remainders(a, b):
 
 def check_kyber():
     (a, b), (most, _) = pairs(KYBER_SIZE, KYBER_MODULUS)
-    words = [SPIRAL, "compile", "--mod", str(KYBER_MODULUS)]
+    words = ["spiral", "compile", "--mod", str(KYBER_MODULUS)]
     compiled = [output(words, transform(way) + "\n") for way in ("forward", "back")]
     got = exec_listing(compiled[0], [a, b, most])
     check(got == [remainders(x) for x in (a, b, most)], "Kyber's transform")
@@ -133,20 +135,16 @@ def check_kyber():
 
 
 def check_program(program, words, size, modulus):
-    done = subprocess.run([f"{HERE}/build.sh", *words, program, "-O1"], capture_output=True, text=True)
+    done = subprocess.run([f"{EXAMPLE}/build.sh", *words, program, "-O1"], capture_output=True, text=True)
     if done.returncode != 0:
-        sys.exit(f"negacyclic/check.py: build.sh {' '.join(words)}: {done.stderr}")
+        sys.exit(f"negacyclic_products: build.sh {' '.join(words)}: {done.stderr}")
     given = pairs(size, modulus)
     got = read_vectors(output([program], lines(x for pair in given for x in pair)))
     check(got == [wanted_product(a, b, modulus) for a, b in given], f"the program of {words}")
 
 
 def check_programs():
-    """Gives how many programs were right: none, where spiral-fast writes no functions."""
-    done = subprocess.run([FAST, "--help"], stdin=subprocess.DEVNULL, capture_output=True, text=True)
-    if "--name" not in done.stdout + done.stderr:
-        print("skipped: this spiral-fast writes no functions")
-        return 0
+    """Gives how many programs were right."""
     with tempfile.TemporaryDirectory() as folder:
         for size, modulus, words in PROGRAMS:
             check_program(f"{folder}/product", [str(size), str(modulus), words], size, modulus)

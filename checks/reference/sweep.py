@@ -1,6 +1,11 @@
-"""Compares the program, the first word, with the reference over a list of requests that is the same at each run. Each
-comparison is of the status, the output and the note. The last line counts them."""
+#!/usr/bin/env python3
+"""Compares what the program writes for several hundred requests, which are the same at each run, with the reference, command by command. Each
+comparison is of the status, the output and the note. The last line counts them.
 
+    checks/reference/sweep.py
+"""
+
+import os
 import re
 import subprocess
 import sys
@@ -17,6 +22,8 @@ from reference import answer, vectors
 from runs import actions, run
 from strangers import MOST_ACTIONS, count, executed, parts_of
 from transforms import Refused, best, certificate, certificate_rows, every_tree, extra_cost, forward, tree_count
+
+TOP = os.path.dirname(os.path.dirname(os.path.dirname(os.path.abspath(__file__))))
 
 # Requests that the documents speak of, and the ends of the limits.
 NAMED = """
@@ -457,7 +464,7 @@ def plans(sweep, lines):
 
 
 def main():
-    sweep = Sweep(sys.argv[1])
+    sweep = Sweep(subprocess.check_output([f"{TOP}/bin/build", "spiral"], text=True).strip())
     numbers = Numbers(11)
     several = dimension_requests(Numbers(23))
     for line in requests() + spread_requests() + several:

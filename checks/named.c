@@ -4,7 +4,7 @@
  * writes the line of each result. The three results have to be the same, where each byte of the arrays but the vector's is
  * 0xa5 before.
  *
- * examples/compile_named.sh says with which macros it is compiled.
+ * checks/compile_named.sh says with which macros it is compiled.
  */
 #include <inttypes.h>
 #include <pthread.h>

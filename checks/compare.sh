@@ -5,10 +5,9 @@
 # which run at once. Some also with ThreadSanitizer, and with AddressSanitizer and UBSan.
 set -euo pipefail
 top=$(cd "$(dirname "$0")/.." && pwd)
-program="$top/crates/spiral/out/spiral"
-fast="$top/crates/spiral_fast/out/spiral_fast"
-[ -x "$program" ] || "$top/bin/build"
-[ -x "$fast" ] || "$top/bin/build" spiral_fast
+PATH=$top/bin:$PATH
+program=$(build spiral)
+fast=$(build spiral_fast)
 all=$(mktemp -d)
 trap 'rm -rf "$all"' EXIT
 
@@ -46,7 +45,7 @@ extremes() {
     printf "%s%s", (great ? most : "0"), (k + 1 < size ? " " : "\n") } }'
 }
 
-# judged NAME COMPILE_SCRIPT WORD .. -- COMPILER [FLAG ..]: what the script makes of the words and of $work/program, by
+# judged NAME SCRIPT WORD .. -- COMPILER [FLAG ..]: what the script makes of the words and of $work/program, by
 # the compiler; the data and results stand beside it
 judged() {
   local name=$1 script=$2 words=()
@@ -61,7 +60,7 @@ judged() {
     return
   fi
   : >"$work/got"
-  if "$top/examples/$script" "${words[@]}" "$work/program" "$@" 2>"$work/errors" &&
+  if "$script" "${words[@]}" "$work/program" "$@" 2>"$work/errors" &&
     "$work/program" <"$work/data" >"$work/got" 2>>"$work/errors" && cmp -s "$work/got" "$work/wanted"; then
     passed=$((passed + 1))
   else
@@ -76,14 +75,14 @@ judged() {
 compared() {
   local name=$1
   shift
-  judged "$name" compile.sh "$work/text.c" -- "$@"
+  judged "$name" "$top/examples/compile.sh" "$work/text.c" -- "$@"
 }
 
 # linked NAME COMPILER [FLAG ..]: the functions `first` and `second` in $work
 linked() {
   local name=$1
   shift
-  judged "$name" compile_named.sh "$work" first second -- "$@"
+  judged "$name" "$top/checks/compile_named.sh" "$work" first second -- "$@"
 }
 
 # prepared REQUEST: the results that are wanted for the data
@@ -108,11 +107,8 @@ fast_text() {
 functions() {
   local request=$1
   shift
-  echo "$request" | "$program" code >"$work/listing"
-  "$fast" --name first <"$work/listing" >"$work/first.c"
-  "$fast" --name first --header <"$work/listing" >"$work/first.h"
-  "$fast" --name second "$@" <"$work/listing" >"$work/second.c"
-  "$fast" --header "$@" --name second <"$work/listing" >"$work/second.h"
+  echo "$request" | "$program" code | "$top/examples/function.sh" "$work/first"
+  echo "$request" | "$program" code | "$top/examples/function.sh" "$work/second" "$@"
 }
 
 # by_request REQUEST: the C text and the fast C text of it
@@ -261,12 +257,12 @@ while read -r request; do
   begin by_fast_request "$request"
   [[ $request == *lanes* ]] || begin on_lanes "$request"
   [ "$(echo "$request" | cut -d' ' -f4)" -ge $((1 << 51)) ] || begin in_words_of_52 "$request"
-done <"$top/examples/fast_requests"
+done <"$top/checks/fast_requests"
 while read -r request; do
   [ -n "$request" ] || continue
   last=$request
   begin by_request "$request"
-done <"$top/examples/requests"
+done <"$top/checks/requests"
 begin sanitized "$last"
 begin constant_place
 begin leftover_word

@@ -1,26 +1,24 @@
 #!/usr/bin/env bash
-# Refuses each allocation of some calls in turn: each run has to end with `spiral: out of memory`, status 12 and no
-# output, and the first run that is refused nothing has to write what the call writes. Prints how many were refused.
-# The program is $1, or else the built one. Where spiral_fast is built, it is tried on the listings.
+# Refuses each allocation of some calls of both programs in turn: each run has to end with status 12, `spiral: out of memory`
+# and no output, and the first run that is refused nothing has to write what the call writes. Prints how many were refused.
 set -euo pipefail
 top=$(cd "$(dirname "$0")/.." && pwd)
-program=$(readlink -f "${1:-$top/crates/spiral/out/spiral}")
-[ -x "$program" ] || "$top/bin/build"
+program=$("$top/bin/build" spiral)
+fast=$("$top/bin/build" spiral_fast)
 work=$(mktemp -d)
 trap 'rm -rf "$work"' EXIT
-cc -O1 -shared -fPIC -Wall -Wextra -o "$work/refuse.so" "$top/bench/refuse.c" -ldl
-fast=$top/crates/spiral_fast/out/spiral_fast
+cc -O1 -shared -fPIC -Wall -Wextra -o "$work/refuse.so" "$top/checks/refuse.c" -ldl
 
 # refused_in_turn REQUEST PROGRAM WORD ..: the call with these words on $work/input
 refused_in_turn() {
   local request=$1 program=$2 number=1 status
   shift 2
   "$program" "$@" <"$work/input" >"$work/wanted"
-  echo "$(basename "$program"): out of memory" >"$work/no_memory"
+  echo "12 $(basename "$program"): out of memory" >"$work/refused"
   while true; do
     status=0
     REFUSED=$number LD_PRELOAD=$work/refuse.so "$program" "$@" <"$work/input" >"$work/got" 2>"$work/note" || status=$?
-    [ "$status" -eq 12 ] && [ ! -s "$work/got" ] && cmp -s "$work/note" "$work/no_memory" || break
+    [ ! -s "$work/got" ] && echo "$status $(cat "$work/note")" | cmp -s - "$work/refused" || break
     number=$((number + 1))
   done
   if [ "$status" -ne 0 ] || [ -s "$work/note" ] || ! cmp -s "$work/got" "$work/wanted" || [ "$number" -eq 1 ]; then
@@ -43,14 +41,12 @@ of_request() {
   refused_in_turn "$request" "$program" check
   { echo "$request" | "$program" code && echo && echo "$vector"; } >"$work/input"
   refused_in_turn "$request" "$program" exec
-  if [ -x "$fast" ]; then
-    echo "$request" | "$program" code >"$work/input"
-    refused_in_turn "$request" "$fast"
-    refused_in_turn "$request" "$fast" --words 52
-    refused_in_turn "$request" "$fast" --lanes 2
-    refused_in_turn "$request" "$fast" --name transform
-    refused_in_turn "$request" "$fast" --name transform --header
-  fi
+  echo "$request" | "$program" code >"$work/input"
+  refused_in_turn "$request" "$fast"
+  refused_in_turn "$request" "$fast" --words 52
+  refused_in_turn "$request" "$fast" --lanes 2
+  refused_in_turn "$request" "$fast" --name transform
+  refused_in_turn "$request" "$fast" --name transform --header
 }
 
 of_request 'dft 4 mod 17 root 4' '1 2 3 4'

@@ -1,12 +1,12 @@
 #!/usr/bin/env python3
 """Links functions of C texts into programs and compares what they compute with the definition of the transform.
 
-    check.py [COMPILER ..]     gcc and clang, if none is named
+    checks/functions.py [COMPILER ..]     gcc and clang, if none is named
 
 Two functions stand in one program and two threads call them at once; another program spreads one transform over threads
 by its phases. Each is also built with ThreadSanitizer. A function's file shows its two names alone, and has no data but
 constants. All is compiled with -Wall -Wextra -Werror, and what is made of `spiral c` with -Wpedantic, too. Python and
-Rust call a function, where cargo is there. SPIRAL and SPIRAL_FAST name the programs (bin/spiral, bin/spiral-fast).
+Rust call a function, where cargo is there.
 """
 
 import os
@@ -16,10 +16,9 @@ import subprocess
 import sys
 import tempfile
 
-HERE = os.path.dirname(os.path.abspath(__file__))
-TOP = os.path.dirname(os.path.dirname(HERE))
-SPIRAL = os.environ.get("SPIRAL", f"{TOP}/bin/spiral")
-FAST = os.environ.get("SPIRAL_FAST", f"{TOP}/bin/spiral-fast")
+TOP = os.path.dirname(os.path.dirname(os.path.abspath(__file__)))
+EXAMPLES = f"{TOP}/examples"
+os.environ["PATH"] = f"{TOP}/bin{os.pathsep}{os.environ['PATH']}"
 STRICT = ["-std=gnu11", "-Wall", "-Wextra", "-Werror", "-Wno-psabi", "-pthread"]
 THREAD_SANITIZER = ["-O1", "-g", "-fsanitize=thread"]
 SMALL = (64, 193, 125, "unroll 4")  # size, modulus, root, further words of the request
@@ -29,30 +28,24 @@ LARGE = (256, 1152921504606830593, 257058671398294284, "procs 2 line 8 lanes 8")
 def output(words, text=""):
     done = subprocess.run(words, input=text, capture_output=True, text=True)
     if done.returncode != 0:
-        sys.exit(f"function/check.py: {' '.join(words)}: status {done.returncode}\n{done.stdout}{done.stderr}")
+        sys.exit(f"functions: {' '.join(words)}: status {done.returncode}\n{done.stdout}{done.stderr}")
     return done.stdout
 
 
-def by_library(request, name, *header):
-    return output([f"{HERE}/../library.py", name, *header], output([SPIRAL, "c"], request + "\n"))
+def by_library(folder, name, request):
+    text = output(["spiral", "c"], request + "\n")
+    for suffix, header in ((".c", ()), (".h", ("--header",))):
+        with open(f"{folder}/{name}{suffix}", "w") as file:
+            file.write(output([f"{EXAMPLES}/library.py", name, *header], text))
 
 
-def by_fast(request, name, *header):
-    listing = output([SPIRAL, "code"], request + "\n")
-    return output([FAST, "--words", "64", "--name", name, *header], listing)
-
-
-def has_named_texts():
-    """Whether the built `spiral-fast` writes functions."""
-    done = subprocess.run([FAST, "--help"], stdin=subprocess.DEVNULL, capture_output=True, text=True)
-    return "--name" in done.stdout + done.stderr
+def by_fast(folder, name, request):
+    output([f"{EXAMPLES}/function.sh", f"{folder}/{name}", "--words", "64"], output(["spiral", "code"], request + "\n"))
 
 
 def write_functions(folder, writer, requests):
     for name, request in requests.items():
-        for suffix, header in ((".c", ()), (".h", ("--header",))):
-            with open(f"{folder}/{name}{suffix}", "w") as file:
-                file.write(writer(request, name, *header))
+        writer(folder, name, request)
 
 
 def transform(vector, modulus, root):
@@ -75,9 +68,9 @@ def lines(values):
 def check_program(folder, main, names, build, given, wanted):
     sources = [f"{folder}/{name}.c" for name in names]
     program = f"{folder}/program"
-    output([*build, *STRICT, f"-I{folder}", f"{HERE}/{main}", *sources, "-o", program])
+    output([*build, *STRICT, f"-I{folder}", f"{EXAMPLES}/function/{main}", *sources, "-o", program])
     if output([program], lines(given)) != lines(wanted):
-        sys.exit(f"function/check.py: {main} differs, built by {' '.join(build)}")
+        sys.exit(f"functions: {main} differs, built by {' '.join(build)}")
 
 
 def check_symbols(folder, names):
@@ -87,7 +80,7 @@ def check_symbols(folder, names):
         symbols = [line.split()[-2:] for line in output(["nm", f"{folder}/{name}.o"]).splitlines()]
         shown = {symbol for kind, symbol in symbols if kind.isupper() and kind != "U"}
         if shown != {name, f"{name}_phase"} or any(kind in "BbCDd" for kind, _ in symbols):
-            sys.exit(f"function/check.py: {name} has other names or data: {symbols}")
+            sys.exit(f"functions: {name} has other names or data: {symbols}")
 
 
 def check(folder, compilers, writer):
@@ -111,7 +104,7 @@ def check(folder, compilers, writer):
 
 def check_python(folder, given, wanted):
     """A function as one of Python; and of numpy's arrays, where numpy is there."""
-    sys.path.insert(0, f"{HERE}/../python")
+    sys.path.insert(0, f"{EXAMPLES}/python")
     from transform import Transform, numpy
 
     library = f"{folder}/libforward.so"
@@ -124,7 +117,7 @@ def check_python(folder, given, wanted):
         print("skipped: numpy is not here")
     for kind in kinds:
         if any(list(forward(kind(x))) != y for x, y in zip(given, wanted)):
-            sys.exit("function/check.py: the function of Python differs")
+            sys.exit("functions: the function of Python differs")
     return len(kinds)
 
 
@@ -133,11 +126,11 @@ def check_rust(folder, given, wanted):
         print("skipped: cargo is not here")
         return 0
     os.environ["FORWARD"] = folder
-    manifest = ["--manifest-path", f"{HERE}/../rust/Cargo.toml", "--target-dir", f"{folder}/target"]
+    manifest = ["--manifest-path", f"{EXAMPLES}/rust/Cargo.toml", "--target-dir", f"{folder}/target"]
     output(["cargo", "build", "--quiet", "--offline", "--locked", *manifest])
     for x, y in zip(given, wanted):
         if output([f"{folder}/target/debug/transform"], lines([x])) != lines([y]):
-            sys.exit("function/check.py: the function of Rust differs")
+            sys.exit("functions: the function of Rust differs")
     return 1
 
 
@@ -156,13 +149,8 @@ def main():
         print(f"skipped: {compiler} is not here")
     if not compilers:
         return
-    writers = [by_library]
-    if has_named_texts():
-        writers.append(by_fast)
-    else:
-        print("skipped: this spiral-fast writes no functions")
     with tempfile.TemporaryDirectory() as folder:
-        right = sum(check(folder, compilers, writer) for writer in writers) + check_languages(folder)
+        right = sum(check(folder, compilers, writer) for writer in (by_library, by_fast)) + check_languages(folder)
         print(f"functions: {right} programs right")
 
 

@@ -5,25 +5,22 @@
 # In a block ```console a line `$ COMMAND` is a command, lines `> ..` after it go on with it, and what follows up to
 # the next command is its answer: standard output and standard error. All run in one shell, in an empty folder with
 # examples/ in it. Blocks of other names are not run; a block ```console if TOOL is run where the command TOOL is there.
-# The pictures that the commands leave are those beside the guide. SPIRAL and SPIRAL_FAST name the programs, if not the
-# built ones. README.md may stand for the guide, too.
+# The pictures that the commands leave are those beside the guide. README.md may stand for the guide, too.
 set -uo pipefail
 top=$(cd "$(dirname "$0")/.." && pwd)
 write=
 [ "${1:-}" = --write ] && write=yes && shift
 guide=$(readlink -f "${1:-$top/docs/GUIDE.md}")
-program=${SPIRAL:-$top/crates/spiral/out/spiral}
-fast=${SPIRAL_FAST:-$top/bin/spiral-fast}
-[ -x "$program" ] || "$top/bin/build" || exit 1
+program=$("$top/bin/build" spiral) && fast=$("$top/bin/build" spiral_fast) || exit 1
 work=$(mktemp -d)
 trap 'rm -rf "$work"' EXIT
 mkdir "$work/bin" "$work/here"
-ln -s "$(readlink -f "$program")" "$work/bin/spiral"
-ln -s "$(readlink -f "$fast")" "$work/bin/spiral-fast"
+ln -s "$program" "$work/bin/spiral"
+ln -s "$fast" "$work/bin/spiral-fast"
 ln -s "$top/examples" "$work/here/examples"
 cd "$work/here" || exit 1
 PATH=$work/bin:$PATH
-export PATH SPIRAL=spiral SPIRAL_FAST=spiral-fast
+export PATH
 
 fence='```'
 inside=

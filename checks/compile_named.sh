@@ -1,5 +1,5 @@
 #!/usr/bin/env bash
-# Compiles two functions of `spiral-fast --name` for one transform into one program, with examples/named.c. Of each there
+# Compiles two functions of `spiral-fast --name` for one transform into one program, with checks/named.c. Of each there
 # are NAME.c and NAME.h in the folder.
 # usage: compile_named.sh FOLDER NAME OTHER_NAME PROGRAM [COMPILER [FLAG ..]]
 set -euo pipefail

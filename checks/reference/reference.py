@@ -1,6 +1,6 @@
 #!/usr/bin/env python3
 """What spiral writes, from the definitions and as plainly as can be. It shares no code with the program:
-reference/sweep.sh compares the two.
+checks/reference/sweep.py compares the two.
 
     printf 'dft 4 mod 17 root 4\n1 2 3 4\n' | reference/reference.py run
 

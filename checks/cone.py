@@ -2,9 +2,9 @@
 """Counts what a reader has to read to know what a clause says: the lines of all definitions in specs/ that it cites, and of those that
 these cite in turn, down to the standard library and to the types of the code, which are named and not counted.
 
-    bench/cone.py                                           compares the table of docs/PROVED.md with what is counted; status 1 where they differ
-    bench/cone.py --write                                   writes the table into the page
-    bench/cone.py CRATE FUNCTION.. [--cut MODULE.NAME..] [--all]
+    checks/cone.py                                           compares the table of docs/PROVED.md with what is counted; status 1 where they differ
+    checks/cone.py --write                                   writes the table into the page
+    checks/cone.py CRATE FUNCTION.. [--cut MODULE.NAME..] [--all]
 
 A root is a public function with its contract. What is cut stands as a word that is not opened. --all also prints each definition's lines.
 """
@@ -18,7 +18,7 @@ import sys
 
 TOP = pathlib.Path(__file__).resolve().parent.parent
 PAGE = TOP / "docs" / "PROVED.md"
-BEGIN = "<!-- the table of commands, written by bench/cone.py -->"
+BEGIN = "<!-- the table of commands, written by checks/cone.py -->"
 END = "<!-- the end of the table of commands -->"
 # The laws of spiral_main on the whole program and on each command. `AccountsFor` and `IsOutcome` link them to the program's clause,
 # and are not opened.
@@ -196,7 +196,7 @@ def page(write):
     if write:
         PAGE.write_text(before + BEGIN + now + END + after)
     elif told != now:
-        sys.exit("docs/PROVED.md: the table of commands is not what bench/cone.py counts; bench/cone.py --write")
+        sys.exit("docs/PROVED.md: the table of commands is not what checks/cone.py counts; checks/cone.py --write")
 
 
 def main(crate, functions, cut, whole):

@@ -1,8 +1,8 @@
 #!/usr/bin/env python3
 """The map of the crates: checks the order of crates.txt, and writes the tables of docs/ARCHITECTURE.md.
 
-    bench/map.py           compares the page with crates.txt and the crates' root files; status 1 where they differ
-    bench/map.py --write   writes the tables into the page
+    checks/map.py           compares the page with crates.txt and the crates' root files; status 1 where they differ
+    checks/map.py --write   writes the tables into the page
 
 A line `# Heading` of crates.txt begins a table; a line that begins with `##` is a remark. Each crate stands after the crates that it uses. Its row has its depth, which is
 one more than that of the deepest crate it uses, the crates that it uses itself, less those that it reaches through another of them,
@@ -16,7 +16,7 @@ import sys
 
 TOP = pathlib.Path(__file__).resolve().parent.parent
 PAGE = TOP / "docs" / "ARCHITECTURE.md"
-BEGIN = "<!-- the map, written by bench/map.py -->"
+BEGIN = "<!-- the map, written by checks/map.py -->"
 END = "<!-- the end of the map -->"
 
 
@@ -111,7 +111,7 @@ def main():
     if write:
         PAGE.write_text(f"{before}{BEGIN}\n\n{wanted}\n\n{END}{after}")
     elif found != wanted:
-        print("map: docs/ARCHITECTURE.md differs from crates.txt and the root files; bench/map.py --write mends it", file=sys.stderr)
+        print("map: docs/ARCHITECTURE.md differs from crates.txt and the root files; checks/map.py --write mends it", file=sys.stderr)
         return 1
     print(f"map: {wanted.splitlines()[0]}")
     return 0
