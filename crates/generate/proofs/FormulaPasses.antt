@@ -1,4 +1,1 @@
-pub mod Merging
-pub mod Counted
-pub mod Costs
 pub mod Programs

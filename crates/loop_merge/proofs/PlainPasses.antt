@@ -1,20 +1,25 @@
 -- Passes for one processor and one lane are ready.
 use Rattle.std.proofs.Common.{◌≡◌, ℕ, ◌+◌, ◌*◌, ◌^◌, ◌<◌, ◌≤◌, true, Bool, refl, sym, ap, ap₂, ◌∙◌, arith, List, []}
-use Rattle.std.proofs.Common.{◌∷◌, ◌++◌, length, length-append, append-nil, subst, All}
+use Rattle.std.proofs.Common.{◌∷◌, ◌++◌, length, length-append, append-nil, map, reverse, subst, All}
 use Rattle.std.specs.Prelude.{◌&&◌}
 use Rattle.std.specs.List.{list_all}
+use Rattle.std.proofs.lemmas.List.{reverse-append}
 use Rattle.std.proofs.lemmas.List.Elements.{All-cons, All-head, All-nil, All-tail, All-weaker}
 use Rattle.loop_merge.proofs.AloneOwns.{shared-first}
-use Rattle.loop_merge.specs.PlainPasses.{ArePlainPasses, IsPlainNest, IsPlainPass, in_order, plain_phase}
+use Rattle.sigma_spl.specs.PlainPasses.{ArePlainPasses, IsPlainNest, IsPlainPass, in_order, plain_phase}
 use Rattle.sigma_spl.proofs.Walk.{and-left}
 use Rattle.sigma_spl.proofs.Phases.{phase-append}
-use Rattle.sigma_spl.specs.Merge.{is_limited, is_multiplier_within, is_within, limits_of}
-use Rattle.sigma_spl.specs.Merged.{merged_on, phase_on}
+use Rattle.sigma_spl.specs.Formula.{Formula, size_of}
+use Rattle.sigma_spl.specs.Formulas.{IsFormulaSigma}
+use Rattle.sigma_spl.specs.Merge.{is_limited, is_multiplier_within, is_within, limits_of, passes_of}
+use Rattle.sigma_spl.specs.Merged.{PlainMerged, merged_on, phase_on}
 use Rattle.sigma_spl.specs.Nest.{PlainNest, nests_on, passes_on, store_place}
 use Rattle.sigma_spl.specs.Shared.Machine.{plain_machine, if_several, framed_lanes, item_of, lane_step, values_of}
 use Rattle.sigma_spl.specs.Shared.Owners.{all_passes, most_actions}
 use Rattle.sigma_spl.specs.Shared.Ready.{IsReady, IsReadyNest, IsReadyPass, passes_tables}
 use Rattle.sigma_spl.specs.Shared.Running.{CanRunNest, MovesVectors}
+use Rattle.sigma_spl.specs.Sigma.{PlainSigma, merged_of, passes_in_order}
+use Rattle.sigma_spl.specs.Term.{PlainTerm}
 use Rattle.sigma_spl.specs.Work.{PlainWork, kernel, rows, horner, tile, copy}
 
 -- ---- the same passes in their order
@@ -26,6 +31,10 @@ ordered-on m n (p ∷ ps) x = phase-append m n (in_order ps) (p ∷ []) x ∙ ap
 length-order : (ps : List (List PlainNest)) → length (in_order ps) ≡ length ps
 length-order [] = refl
 length-order (p ∷ ps) = let all = length-append (in_order ps) (p ∷ []) in let rest = length-order ps in omega arith
+
+pub in_order_reversed : (ps : List (List PlainNest)) → reverse ps ≡ in_order ps
+in_order_reversed [] = refl
+in_order_reversed (zs ∷ ps) = reverse-append (zs ∷ []) ps ∙ ap (λ qs. qs ++ zs ∷ []) (in_order_reversed ps)
 
 -- what they do
 pub plain_on : (n m : ℕ) (ps : List (List PlainNest)) (x : List ℕ) →
@@ -115,3 +124,21 @@ module _ (n m : ℕ) where
         tables = subst (λ qs. passes_tables qs < 2 ^ 32) (sym one) h.tables;
         shared = (shared-first (plain_machine n m) refl (in_order ps), tt);
       }
+
+-- ---- the passes of a formula's Sigma
+
+abbrev merged_terms : (n procs lanes : ℕ) → List PlainTerm → PlainMerged
+merged_terms n procs lanes ts = record { size = n; procs = procs; lanes = lanes; phases = map (passes_in_order n) ts }
+
+pub formula_merges : (m : ℕ) (f : Formula) (s : PlainSigma) → IsFormulaSigma m f s →
+    IsReady (plain_machine (size_of f) m) (merged_of s)
+formula_merges m f s h =
+    let n = size_of f in
+    let ps = passes_of n h.term in
+    let is : merged_of s ≡ plain_phase n ps =
+    ap (λ (k : ℕ). merged_terms k s.procs s.lanes s.phases) h.size
+    ∙ ap (λ (k : ℕ). merged_terms n k s.lanes s.phases) h.procs
+    ∙ ap (λ (k : ℕ). merged_terms n 1 k s.phases) h.lanes
+    ∙ ap (λ (ts : List PlainTerm). merged_terms n 1 1 ts) h.phases
+    ∙ ap (λ (qs : List (List PlainNest)). record { size = n; procs = 1; lanes = 1; phases = qs ∷ [] }) (in_order_reversed ps) in
+    subst (IsReady (plain_machine n m)) (sym is) (plain_are_ready n m ps h.passes)

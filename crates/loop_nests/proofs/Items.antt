@@ -180,13 +180,6 @@ alone_named n (e ∷ es) = (tt, alone_named n es)
 
 -- ---- a loop over all words
 
-pub loop_several : (n : ℕ) → 0 < n → AreSeveral (one_loop n)
-loop_several n some =
-    elim (cases_eq n 1) [
-      | inl one ↦ let is : one_loop n ≡ [] = grind (arith, nat_tests) in subst AreSeveral (sym is) tt
-      | inr several ↦ let is : one_loop n ≡ Blocks n ∷ [] = grind (arith, nat_tests) in subst AreSeveral (sym is) (omega (arith, some, several), tt)
-    ]
-
 pub loop_size : (n : ℕ) → size_under (one_loop n) 1 ≡ n
 loop_size = size-one_loop
 

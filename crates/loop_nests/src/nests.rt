@@ -140,7 +140,7 @@ fn numbers(alloc: Global, places: &[u64]) -> Result<Vec<Affine>, NoMemory>
 }
 
 /// A pass that changes nothing, on `size` words.
-#[tactic(auto, using(crate::proofs::Items::loop_several, crate::proofs::Items::loop_size))]
+#[tactic(auto, using(sigma_spl::proofs::Several::loop_several, crate::proofs::Items::loop_size))]
 pub fn copying(alloc: Global, size: u64) -> Result<Vec<Nest>, NoMemory>
     requires some { 0 < size }
     requires high { size ≤ 2 ^ 20 }

@@ -1,5 +1,5 @@
 // The term of a formula, as one phase.
-ghost use Rattle.std.specs.Prelude.{◌≡◌, ◌%◌, ℕ, List, IfOk, map};
+ghost use Rattle.std.specs.Prelude.{◌≡◌, ◌≤◌, ◌%◌, ℕ, List, IfOk, map};
 ghost use Rattle.sigma_lower.specs.OnePhase.{formula_sigma};
 ghost use Rattle.sigma_lower.specs.Operations.{operations};
 ghost use Rattle.sigma_spl.specs.Shared.Costs.{work_cost};
@@ -7,6 +7,7 @@ ghost use Rattle.sigma_lower.specs.Terms.{one_more, halvings, hadamard_term, fou
 ghost use Rattle.index_fn.specs.Index.{mapping_of};
 ghost use Rattle.matrix_meaning.specs.declared.Kind.TheVariants.{Wht};
 ghost use Rattle.matrix_meaning.specs.Kind.{IsPowerOfTwo};
+ghost use Rattle.sigma_spl.specs.Formulas.{IsFormulaSigma};
 ghost use Rattle.sigma_spl.specs.Good.{IsVector};
 ghost use Rattle.sigma_spl.specs.Nest.{twiddles, values};
 ghost use Rattle.sigma_spl.specs.Sigma.{IsGoodSigma, sigma_cost, sigma_on};
@@ -15,7 +16,7 @@ ghost use Rattle.sigma_spl.specs.Views.{plain_sigma, plain_term, plain_work};
 ghost use Rattle.sigma_spl.specs.Work.{kernel, short};
 ghost use Rattle.sigma_spl.specs.Room.{HasRoom};
 ghost use Rattle.sigma_lower.specs.TreeTerms.Wrapped.{wrapped};
-ghost use Rattle.spl_ast.specs.Formula.{size_of};
+ghost use Rattle.spl_ast.specs.Formula.{parts_of, size_of};
 ghost use Rattle.spl_ast.specs.Meaning.{apply};
 ghost use Rattle.operators.specs.declared.tensor_paths.Tensor.TheVariants.{Columns};
 
@@ -33,13 +34,16 @@ use std::alloc::Global;
 const MAX_KERNEL: u64 = 8;
 
 /// The term of a formula over residues, for one processor of one lane: its diagonals hold residues. It does what the
-/// formula does, in its operations, and can be merged.
+/// formula does, in its operations, and can be merged; of a formula of at most 65,536 parts its passes then make a
+/// program.
 pub fn lower_formula(alloc: Global, modulus: &Modulus, formula: &Spl) -> Result<Sigma, NoMemory>
     ensures form { IfOk result (λ s. plain_sigma s ≡ formula_sigma modulus.now formula.now) }
     ensures meaning { IfOk result (λ s. (x : List ℕ)
         → IsVector modulus.now (size_of formula.now) x
         → sigma_on modulus.now (plain_sigma s) x ≡ apply modulus.now formula.now x) }
     ensures good { IfOk result (λ s. IsGoodSigma (plain_sigma s)) }
+    ensures formula { parts_of formula.now ≤ 65536
+        → IfOk result (λ s. IsFormulaSigma modulus.now formula.now (plain_sigma s)) }
     ensures operations { IfOk result (λ s. (weight : ℕ)
         → sigma_cost weight (work_cost weight modulus.now) (plain_sigma s)
         ≡ operations weight modulus.now formula.now) }

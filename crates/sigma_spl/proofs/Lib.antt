@@ -19,3 +19,4 @@ pub mod Numbered
 pub mod Phases
 pub mod Several
 pub mod Fitting
+pub mod Tables

@@ -470,3 +470,11 @@ pub merge_limits : MergeLimits
 merge_limits lanes n t some high good several =
     let round : IsRound 0 n = omega (arith, high) in
     any-within n _ some high (part-within lanes 0 n t some round good (merged-within lanes 0 n nothing t some round good several (nothing-stands lanes 1 n) tt))
+
+-- a sum within the limits stays below its bound
+pub top-below : (room n : ℕ) (cs : ℕ → ℕ) (e : Sum) → is_limited room n cs e ≡ true → top e cs < n
+top-below room n cs e h =
+    let first = nat_le (parts e) room && nat_le (levels e) 64 in
+    let bounds = nat_lt (top e cs) n && nat_lt (peak e) n in
+    let both = and-left bounds (are_small cs e) (and-right first (bounds && are_small cs e) h) in
+    lt-true _ _ (and-left (nat_lt (top e cs) n) _ both)

@@ -19,3 +19,6 @@ pub mod Views
 pub mod Lists
 pub mod Shared
 pub mod Trees
+pub mod PlainPasses
+pub mod Formulas
+pub use Rattle.spl_ast.specs.Formula

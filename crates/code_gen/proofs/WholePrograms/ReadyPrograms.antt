@@ -5,6 +5,7 @@ use Rattle.std.proofs.lemmas.List.Elements.{All-weaker, All-contains}
 use Rattle.std.specs.List.{list_all, range_with_len}
 use Rattle.std.proofs.lemmas.Bool.{and_from, lt-ltb}
 use Rattle.operators.specs.declared.target.Target.{Target}
+use Rattle.sigma_spl.proofs.Tables.{tables-append}
 use Rattle.sigma_spl.specs.Merged.{PlainMerged}
 use Rattle.sigma_spl.specs.Nest.{PlainMultiplier, PlainNest, factor_at, factor_count}
 use Rattle.sigma_spl.specs.Shared.Owners.{all_passes}
@@ -63,10 +64,6 @@ passes-grown m (zs ∷ ps) tables =
     let first = pass-grown m zs tables in
     let rest = passes-grown m ps (tables_after m zs tables) in
     omega (arith, first, rest)
-
-tables-append : (ps qs : List (List PlainNest)) → passes_tables (ps ++ qs) ≡ passes_tables ps + passes_tables qs
-tables-append [] qs = omega arith
-tables-append (zs ∷ ps) qs = let rest = tables-append ps qs in omega (arith, rest)
 
 phases-grown : (m : ℕ) (pss : List (List (List PlainNest))) (tables : List (List ℕ)) →
     length (tables_of_phases m pss tables) ≤ length tables + passes_tables (all_passes pss)

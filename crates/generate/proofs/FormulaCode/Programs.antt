@@ -10,6 +10,7 @@ use Rattle.generate.specs.FormulaPasses.Computes.{formula_merged}
 use Rattle.icode.specs.Plain.{PlainProgram}
 use Rattle.loop_merge.specs.JoinedCopies.Joined.{all_joined}
 use Rattle.loop_merge.proofs.JoinedCopies.Passes.{joined-order}
+use Rattle.loop_merge.proofs.PlainPasses.{in_order_reversed}
 use Rattle.sigma_spl.specs.Shared.Machine.{plain_machine}
 use Rattle.code_gen.specs.PassCode.Contract.{Performs}
 use Rattle.sigma_spl.specs.Shared.Ready.{IsReady}
@@ -18,7 +19,7 @@ use Rattle.sigma_spl.specs.Merge.{passes_of}
 use Rattle.sigma_spl.specs.Merged.{PlainMerged}
 use Rattle.sigma_spl.specs.Nest.{PlainNest}
 use Rattle.sigma_spl.specs.Sigma.{merged_of}
-use Rattle.loop_merge.specs.PlainPasses.{in_order}
+use Rattle.sigma_spl.specs.PlainPasses.{in_order}
 use Rattle.spl_ast.specs.Formula.{Formula, parts_of, size_of}
 use Rattle.spl_ast.specs.Shape.{IsShaped}
 use Rattle.generate.specs.GoodPrograms.{FormulaProgramsAreCode}
@@ -35,17 +36,13 @@ use Rattle.generate.proofs.FormulaCode.Regrouped.{few_parts, same_code}
 
 -- ---- passes in one phase
 
-same-order : (ps : List (List PlainNest)) → reverse ps ≡ in_order ps
-same-order [] = refl
-same-order (zs ∷ ps) = reverse-append (zs ∷ []) ps ∙ ap (λ qs. qs ++ zs ∷ []) (same-order ps)
-
 abbrev in_phase : ℕ → List (List PlainNest) → PlainMerged
 in_phase n ps = record { size = n; procs = 1; lanes = 1; phases = ps ∷ [] }
 
 pub formula_joined : (m : ℕ) (f : Formula) → phases_joined (merged_of (formula_sigma m f)) ≡ formula_merged m f
 formula_joined m f =
     let ps = passes_of (size_of f) (term_of m [] f) in
-    ap (in_phase (size_of f)) (ap all_joined (same-order ps) ∙ sym (joined-order ps))
+    ap (in_phase (size_of f)) (ap all_joined (in_order_reversed ps) ∙ sym (joined-order ps))
 
 pub can_emit : (m : ℕ) (f : Formula) (g : PlainMerged) → 2 ≤ m → m < 2 ^ 62 → IsShaped f → parts_of f ≤ 65536 →
     g ≡ formula_merged m f → IsReady (plain_machine g.size m) g

@@ -12,7 +12,7 @@ use Rattle.code_gen.specs.PassCode.Contract.{Performs}
 use Rattle.sigma_spl.specs.Good.{IsVector}
 use Rattle.sigma_spl.specs.Merge.{passes_of}
 use Rattle.sigma_spl.specs.Merged.{PlainMerged}
-use Rattle.loop_merge.specs.PlainPasses.{plain_phase}
+use Rattle.sigma_spl.specs.PlainPasses.{plain_phase}
 use Rattle.spl_ast.specs.Formula.{Formula, size_of, parts_of}
 use Rattle.spl_ast.specs.Meaning.{apply}
 use Rattle.spl_ast.specs.Shape.{IsShaped}

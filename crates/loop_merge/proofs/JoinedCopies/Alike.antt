@@ -8,7 +8,7 @@ use Rattle.sigma_spl.specs.Copies.{all_stored, hits, loops_of, stored}
 use Rattle.sigma_spl.specs.Counts.{CopiesAreFree, copies_in, nest_cost, pass_cost}
 use Rattle.sigma_spl.specs.Nest.{PlainNest, copies_of, store_place}
 use Rattle.sigma_spl.specs.Work.{PlainWork, work_size}
-use Rattle.loop_merge.specs.PlainPasses.{IsPlainNest}
+use Rattle.sigma_spl.specs.PlainPasses.{IsPlainNest}
 use Rattle.operators.specs.TensorPaths.Loop.{loop_at}
 
 pub record AreAlike (zs ys : List PlainNest) : Type 0 where

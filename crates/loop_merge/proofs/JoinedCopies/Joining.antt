@@ -14,7 +14,7 @@ use Rattle.sigma_spl.specs.Copies.{hits, stored}
 use Rattle.sigma_spl.specs.Counts.{CopiesAreFree, copies_in, pass_cost}
 use Rattle.sigma_spl.specs.Nest.{PlainNest, copies_of}
 use Rattle.sigma_spl.specs.Work.{PlainWork, copy}
-use Rattle.loop_merge.specs.PlainPasses.{IsPlainNest}
+use Rattle.sigma_spl.specs.PlainPasses.{IsPlainNest}
 
 -- ---- two loops of k and of n words
 

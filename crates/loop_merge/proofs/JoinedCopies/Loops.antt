@@ -5,7 +5,7 @@ use Rattle.std.specs.Prelude.{◌==◌, ◌&&◌, if◌then◌else◌, slice_ind
 use Rattle.std.proofs.lemmas.Bool.Decides.{nat_tests}
 use Rattle.std.proofs.lemmas.List.Elements.{All-nil, All-cons, All-head}
 use Rattle.loop_merge.specs.JoinedCopies.Joined.{copying_run}
-use Rattle.loop_merge.specs.PlainPasses.{IsPlainNest}
+use Rattle.sigma_spl.specs.PlainPasses.{IsPlainNest}
 use Rattle.operators.specs.Sum.{sum_below}
 use Rattle.operators.proofs.Sums.{sum_below-same}
 use Rattle.sigma_spl.specs.Shared.Machine.{plain_machine}

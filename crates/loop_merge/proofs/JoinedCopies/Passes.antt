@@ -12,7 +12,7 @@ use Rattle.sigma_spl.specs.Shared.Machine.{plain_machine}
 use Rattle.sigma_spl.specs.Shared.Owners.{most_actions}
 use Rattle.sigma_spl.specs.Shared.Ready.{passes_tables}
 use Rattle.sigma_spl.specs.Nest.{PlainNest, nests_on}
-use Rattle.loop_merge.specs.PlainPasses.{IsPlainPass, in_order}
+use Rattle.sigma_spl.specs.PlainPasses.{IsPlainPass, in_order}
 
 -- ---- meaning and counts
 

@@ -6,6 +6,7 @@ use Rattle.std.proofs.lemmas.Bool.{cases_lt}
 use Rattle.std.proofs.lemmas.List.{get_or_past}
 use Rattle.std.proofs.lemmas.List.Elements.{All-nil, All-cons, All-append}
 use Rattle.operators.specs.declared.target.Target.{Target}
+use Rattle.sigma_spl.proofs.Tables.{tables-append}
 use Rattle.sigma_spl.specs.Merged.{PlainMerged}
 use Rattle.sigma_spl.specs.Nest.{PlainNest, values}
 use Rattle.sigma_spl.specs.Shared.Owners.{all_passes, most_actions}
@@ -25,10 +26,6 @@ at-residues m ds some h i =
       | inl inside ↦ h i 0 inside
       | inr past ↦ subst (λ v. v < m) (sym (get_or_past ds i 0 past)) some
     ]
-
-pub tables-append : (ps qs : List (List PlainNest)) → passes_tables (ps ++ qs) ≡ passes_tables ps + passes_tables qs
-tables-append [] qs = omega arith
-tables-append (zs ∷ ps) qs = let rest = tables-append ps qs in omega (arith, rest)
 
 module _ (h : Target) (g k : PlainMerged) (ds : List ℕ) (can : CanJoin h g ds k) where
   abbrev first : List (List PlainNest)

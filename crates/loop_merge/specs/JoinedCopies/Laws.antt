@@ -5,7 +5,7 @@ use Rattle.sigma_spl.specs.Shared.Costs.{pass_loads}
 use Rattle.sigma_spl.specs.Counts.{passes_cost, CopiesAreFree}
 use Rattle.sigma_spl.specs.Nest.{PlainNest, passes_on}
 use Rattle.sigma_spl.specs.Work.{PlainWork}
-use Rattle.loop_merge.specs.PlainPasses.{ArePlainPasses}
+use Rattle.sigma_spl.specs.PlainPasses.{ArePlainPasses}
 
 -- modulo any number, on lists of any length
 abbrev pub JoinedMean : Type 0

@@ -3,7 +3,7 @@ use Rattle.std.proofs.Common.{◌≡◌, ℕ, ◌<◌, true, subst, arith}
 use Rattle.std.specs.Prelude.{◌&&◌, nat_le, nat_lt}
 use Rattle.sigma_spl.specs.Merge.{are_small, is_limited}
 use Rattle.sigma_spl.proofs.Walk.{and-left, and-right}
-use Rattle.sigma_spl.proofs.Limited.{lt-true}
+use Rattle.sigma_spl.proofs.Limited.{top-below}
 use Rattle.perm_algebra.specs.Affine.{Sum, constant, variable, remainder, quotient, levels, parts, peak, top, value}
 use Rattle.perm_algebra.specs.Affine.{IsSound}
 use Rattle.perm_algebra.specs.Fits.{InRange, IsAffine}
@@ -22,13 +22,6 @@ sound m cs (constant c) h = tt
 sound m cs (variable f d rest) h = sound m cs rest h.1
 sound m cs (remainder f of k rest) h = (h.0, sound m cs of h.1, sound m cs rest h.3)
 sound m cs (quotient f of k rest) h = (h.0, sound m cs of h.1, sound m cs rest h.3)
-
-pub top-below : (room n : ℕ) (cs : ℕ → ℕ) (e : Sum) → is_limited room n cs e ≡ true → top e cs < n
-top-below room n cs e h =
-    let first = nat_le (parts e) room && nat_le (levels e) 64 in
-    let bounds = nat_lt (top e cs) n && nat_lt (peak e) n in
-    let both = and-left bounds (are_small cs e) (and-right first (bounds && are_small cs e) h) in
-    lt-true _ _ (and-left (nat_lt (top e cs) n) _ both)
 
 pub value_inside : (m room n : ℕ) (cs : ℕ → ℕ) (e : Sum) → IsAffine m cs e → is_limited room n cs e ≡ true →
     (vs : ℕ → ℕ) → InRange cs vs → value e vs < n

@@ -1,6 +1,7 @@
 use Rattle.std.specs.Prelude.{◌≡◌, [], ◌∷◌, ◌++◌, map}
 use Rattle.std.proofs.Common.{◌<◌, ap, ap₂, ◌∙◌, arith}
 use Rattle.sigma_lower.specs.OnePhase.{formula_sigma}
+use Rattle.sigma_lower.proofs.FormulaPasses.Plain.{formula_is_sigma}
 use Rattle.sigma_lower.proofs.Formulas.{can_merge, counts_the_same, does_the_same, one_phase}
 use Rattle.sigma_spl.specs.Sigma.{PlainSigma}
 use Rattle.sigma_spl.specs.Views.{plain_term}
@@ -28,3 +29,9 @@ returns-clause-good c =
 pub returns-clause-operations : goal.returns-clause-operations
 returns-clause-operations c =
     counts_the_same c.args.modulus.now c.args.formula.now (made c) (positive c) c.rows-size.ensures.shaped (form c)
+
+pub returns-clause-formula : goal.returns-clause-formula
+returns-clause-formula c = λ few.
+    let modulus = c.get-modulus.ensures in
+    formula_is_sigma c.args.modulus.now c.args.formula.now (made c) modulus.at_least_two modulus.below_limit
+    c.rows-size.ensures.shaped few (form c)

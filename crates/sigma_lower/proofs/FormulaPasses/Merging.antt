@@ -23,7 +23,7 @@ use Rattle.tree_model.specs.Breakdown.{AllowsLeaf}
 use Rattle.sigma_lower.proofs.TreeSigmas.Ready.{names-all}
 use Rattle.operators.specs.Sum.{list_below}
 use Rattle.operators.proofs.Lists.{length-list_below}
-use Rattle.loop_nests.proofs.Items.{loop_several}
+use Rattle.sigma_spl.proofs.Several.{loop_several}
 use Rattle.sigma_spl.specs.Term.{PlainTerm, scat, diag, nest, move, product, beside}
 use Rattle.sigma_spl.proofs.Keeps.{merged-reaches, nothing-stands, inner_positive, inner-formed}
 use Rattle.sigma_spl.proofs.Moved.{moved-good, table-good}

@@ -19,7 +19,7 @@ use Rattle.spl_ast.specs.Formula.{Formula, Fourier, Hadamard, Twiddles, Diagonal
 use Rattle.spl_ast.specs.Formula.{DirectSum, Pending, size_of, parts_of}
 use Rattle.spl_ast.specs.Shape.{IsShaped}
 use Rattle.tree_model.specs.Breakdown.{leaf}
-use Rattle.generate.proofs.FormulaPasses.Merging.{IsFormulaWork, AreMade}
+use Rattle.sigma_lower.proofs.FormulaPasses.Merging.{IsFormulaWork, AreMade}
 use Rattle.kernel_gen.proofs.KernelSizes.{sum_below-le}
 
 -- ---- kernels of leaves

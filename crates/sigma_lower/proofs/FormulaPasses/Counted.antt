@@ -13,7 +13,7 @@ use Rattle.sigma_spl.specs.Shared.Ready.{diagonal_tables, nests_tables, passes_t
 use Rattle.sigma_spl.specs.Term.{PlainTerm, same, gath, scat, diag, nest, move, product, beside}
 use Rattle.sigma_spl.proofs.Walk.{chosen}
 use Rattle.operators.specs.TensorPaths.Path.{Path}
-use Rattle.loop_merge.proofs.JoinedPasses.Programs.{tables-append}
+use Rattle.sigma_spl.proofs.Tables.{tables-append}
 
 abbrev pub AreNarrow : ℕ → List (List PlainNest) → Type 0
 AreNarrow b [] = Unit {0}

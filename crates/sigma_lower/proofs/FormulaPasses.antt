@@ -1,0 +1,4 @@
+pub mod Merging
+pub mod Counted
+pub mod Costs
+pub mod Plain
