@@ -140,7 +140,8 @@ pub use Rattle.sigma_lower.specs.TreeLoops.Nests.{loop_of, taken_of}
 pub use Rattle.sigma_lower.specs.TreeLoops.Placed.{AreCounts, ArePlacesLimited, Fits, IsCarried, IsLimitedPass, IsTame}
 pub use Rattle.sigma_lower.specs.TreeLoops.Placed.{all_simplified, diagonal_places, place_sum}
 pub use Rattle.sigma_lower.specs.TreeLoops.SharedPasses.Shared.{AllFramed, IsFramed, framed}
-pub use Rattle.sigma_lower.specs.TreeTerms.Good.{AreCoprime, AreGood, IsGood, IsGoodCore, IsGoodPiece, IsVecOf}
+pub use Rattle.sigma_lower.specs.TreeTerms.Good.{AreCoprime, AreGood, IsGood, IsGoodCore, IsGoodPiece}
+pub use Rattle.vec_rewrite.specs.Laws.{IsVecOf}
 pub use Rattle.sigma_lower.specs.TreeTerms.Root.{in_phases, left_core, left_path, left_terms, lines_dealt, lines_moved}
 pub use Rattle.sigma_lower.specs.TreeTerms.Root.{right_path, right_terms, root_terms, tile_path, tiled_after}
 pub use Rattle.sigma_lower.specs.TreeTerms.Root.{tiled_before, turned_in, vectors_grouped, vectors_turned, whole_path}

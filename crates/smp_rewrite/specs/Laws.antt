@@ -7,7 +7,7 @@ use Rattle.matrix_meaning.specs.Valid.{IsValid}
 use Rattle.operators.specs.Identities.{MovesWholeLines}
 use Rattle.operators.specs.Operator.{gather}
 use Rattle.smp_rewrite.specs.LayoutSteps.Layout.{layout_of}
-use Rattle.smp_rewrite.specs.LayoutSteps.Whole.{Whole, whole_on, whole_operations}
+use Rattle.smp_rewrite.specs.LayoutSteps.Whole.{Whole, IsGoodWhole, whole_of, whole_on, whole_operations}
 use Rattle.sigma_spl.specs.Shared.Targets.{target_of}
 use Rattle.operators.specs.declared.target.Target.{Target}
 use Rattle.smp_rewrite.specs.LayoutSteps.Meaning.{core_size, step_on}
@@ -63,6 +63,23 @@ abbrev pub IsShaped : PlainSmp → Type 0
 IsShaped f =
     All (HasShape f.target.size f.target.procs f.target.line) (f.first ++ f.second)
     × HasEqualParts f.target.size f.target.procs f.closing
+
+-- the formula of some whole that the machine can share
+pub record IsSmpOf (h : Target) (f : PlainSmp) : Type 0 where
+  pub whole : Whole
+  pub shares : CanShareLayout h whole.layout
+  pub form : f ≡ smp_of h whole
+
+-- of a good one
+pub record IsGoodSmpOf (h : Target) (f : PlainSmp) : Type 0 where
+  pub smp : IsSmpOf h f
+  pub good : IsGoodWhole h.modulus smp.whole
+
+-- of a tree that a valid request admits
+pub record IsSmpOfTree (c : Request) (t : Breakdown) (f : PlainSmp) : Type 0 where
+  pub valid : IsValid c
+  pub tree : IsWholeTree c t
+  pub form : f ≡ smp_of (target_of c) (whole_of c t)
 
 -- the formula of a whole does what the whole does
 abbrev pub SmpTransforms : Type 0

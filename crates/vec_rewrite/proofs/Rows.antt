@@ -12,7 +12,8 @@ use Rattle.smp_rewrite.proofs.TreeLaws.{smp_shaped}
 use Rattle.operators.specs.declared.tensor_paths.Tensor.TheVariants.{Blocks, Columns}
 use Rattle.operators.specs.declared.target.Target.{Target}
 use Rattle.operators.specs.TensorPaths.Path.{Path, size_under}
-use Rattle.vec_rewrite.specs.Laws.{IsSmpOf, HasRowsUnder, HasRows}
+use Rattle.smp_rewrite.specs.Laws.{IsSmpOf}
+use Rattle.vec_rewrite.specs.Laws.{HasRowsUnder, HasRows}
 
 rows-under : (n p k : ℕ) (path : Path) → 0 < n → p * size_under path k ≡ n → HasRowsUnder path
 rows-under n p k [] positive e = tt

@@ -2,25 +2,36 @@
 use Rattle.std.specs.Prelude.{◌≡◌, ℕ, ◌*◌, ◌%◌, ◌<◌, true, List, [], ◌∷◌, ◌++◌, All}
 use Rattle.smp_rewrite.specs.Smp.{PlainFactor, blocks, diagonals, move_before, move_after, PlainSmp, smp_on, smp_shares}
 use Rattle.smp_rewrite.specs.Cut.{layout_smp, smp_of}
-use Rattle.smp_rewrite.specs.Laws.{step_size, HasEqualParts, IsPermutation, IsDiagonal}
+use Rattle.smp_rewrite.specs.Laws.{step_size, HasEqualParts, IsPermutation, IsDiagonal, IsSmpOf}
 use Rattle.smp_rewrite.specs.Fits.{CanShareLayout}
 use Rattle.smp_rewrite.specs.LayoutSteps.Layout.{Layout}
-use Rattle.smp_rewrite.specs.LayoutSteps.Whole.{Whole}
+use Rattle.smp_rewrite.specs.LayoutSteps.Whole.{Whole, IsGoodWhole, whole_of}
 use Rattle.smp_rewrite.specs.LayoutSteps.Step.{steps_of}
 use Rattle.sigma_spl.specs.Good.{AreBlocks}
-use Rattle.sigma_spl.specs.Shared.Targets.{is_alone}
+use Rattle.sigma_spl.specs.Shared.Targets.{is_alone, target_of}
+use Rattle.matrix_meaning.specs.Valid.{IsValid}
+use Rattle.matrix_meaning.specs.declared.Request.{Request}
 use Rattle.operators.specs.declared.target.Target.{Target}
 use Rattle.operators.specs.declared.tensor_paths.Tensor.TheVariants.{Blocks, Columns}
 use Rattle.operators.specs.TensorPaths.Path.{Path, size_under}
+use Rattle.tree_model.specs.Breakdown.{Breakdown}
+use Rattle.tree_model.specs.Chosen.{IsWholeTree}
 use Rattle.vec_rewrite.specs.Vectors as vec
 use Rattle.vec_rewrite.specs.Vectors.{PlainVec, vec_steps, vec_on, vec_shares}
 use Rattle.vec_rewrite.specs.Turning.{vec_of}
 
--- the formula of some whole that the machine can share
-pub record IsSmpOf (h : Target) (f : PlainSmp) : Type 0 where
+-- the formula for lanes of some good whole that the machine can share
+pub record IsVecOf (h : Target) (g : PlainVec) : Type 0 where
   pub whole : Whole
   pub shares : CanShareLayout h whole.layout
-  pub form : f ≡ smp_of h whole
+  pub good : IsGoodWhole h.modulus whole
+  pub form : g ≡ vec_of (smp_of h whole)
+
+-- of a tree that a valid request admits
+pub record IsVecOfTree (c : Request) (t : Breakdown) (g : PlainVec) : Type 0 where
+  pub valid : IsValid c
+  pub tree : IsWholeTree c t
+  pub form : g ≡ vec_of (smp_of (target_of c) (whole_of c t))
 
 -- a step under blocks has some
 abbrev pub HasRowsUnder : Path → Type 0

@@ -8,7 +8,9 @@ ghost use Rattle.smp_rewrite.specs.Smp.{smp_on, smp_shares, within};
 ghost use Rattle.smp_rewrite.specs.Views.{plain_factor, plain_smp};
 ghost use Rattle.smp_rewrite.specs.LayoutSteps.Step.{step, turns};
 ghost use Rattle.smp_rewrite.specs.LayoutSteps.Views.{plain_core, plain_step};
-ghost use Rattle.vec_rewrite.specs.Laws.{HasRows, HasRowsUnder, IsLaned, IsSmpOf, PlainSteps, VecKeeps, VecShaped};
+ghost use Rattle.vec_rewrite.specs.Laws.{HasRows, HasRowsUnder, IsLaned, IsVecOf, IsVecOfTree, PlainSteps, VecKeeps, VecShaped};
+ghost use Rattle.smp_rewrite.specs.Laws.{IsGoodSmpOf, IsSmpOf, IsSmpOfTree};
+ghost use Rattle.tree_model.specs.Breakdown.{Breakdown};
 ghost use Rattle.vec_rewrite.specs.Turning.{block_factors, grid_after, grouped, joined, kept, laned, laned_from, narrowed, order_after, parted, phase_of, settled, vec_of};
 ghost use Rattle.vec_rewrite.specs.Vectors.{factor_step, vec_on, vec_shares, vec_steps};
 ghost use Rattle.vec_rewrite.specs.Views.{plain_vec, plain_vec_factor};
@@ -71,6 +73,10 @@ pub fn to_vec(alloc: Global, c: &Ctx, f: SmpSpl) -> Result<VecSpl, NoMemory>
     ensures operations { IfOk result (λ g. vec_shares c.now.weight c.now.modulus (plain_vec g)
         ≡ smp_shares c.now.weight c.now.modulus (plain_smp f)) }
     ensures shape { IfOk result (λ g. IsLaned (plain_vec g)) }
+    ensures fits { IfOk result (λ g. IsGoodSmpOf (target_of c.now) (plain_smp f)
+        → IsVecOf (target_of c.now) (plain_vec g)) }
+    ensures tree { IfOk result (λ g. (t : Breakdown) → IsSmpOfTree c.now t (plain_smp f)
+        → IsVecOfTree c.now t (plain_vec g)) }
 {
     let formula = lanes_of(alloc, c, f)?;
     Ok(formula)

@@ -4,7 +4,6 @@ use Rattle.matrix_meaning.specs.Valid.{IsValid}
 use Rattle.matrix_meaning.specs.declared.Request.{Request}
 use Rattle.sigma_lower.proofs.TreeLayouts.{trees_can_lower}
 use Rattle.sigma_lower.specs.Merged.{sigma_of, tree_merged, whole_sigma}
-use Rattle.sigma_lower.specs.TreeTerms.Good.{IsVecOf}
 use Rattle.sigma_spl.specs.Merged.{PlainMerged, merged_on}
 use Rattle.sigma_spl.specs.Shared.Targets.{target_of}
 use Rattle.sigma_spl.specs.Sigma.{PlainSigma, merged_of}
@@ -15,7 +14,6 @@ use Rattle.smp_rewrite.specs.Smp.{PlainSmp}
 use Rattle.tree_model.proofs.WholeTrees.{forward_size}
 use Rattle.tree_model.specs.Breakdown.{Breakdown, size_of}
 use Rattle.tree_model.specs.Chosen.{IsWholeTree, StandsIn}
-use Rattle.vec_rewrite.specs.Laws.{IsSmpOf}
 use Rattle.vec_rewrite.specs.Turning.{vec_of}
 use Rattle.vec_rewrite.specs.Vectors.{PlainVec}
 use Rattle.loop_merge.proofs.TreeMerge.{sigmas_merge_to_trees}
@@ -27,25 +25,16 @@ use Rattle.sigma_spl.proofs.Phases.{sigma_merges}
 use Rattle.sigma_spl.specs.Good.{IsVector}
 use Rattle.sigma_spl.specs.Trees.{IsMergedTree}
 
--- ---- what each stage from a tree to its merged passes asks for
+-- ---- from a tree to its merged passes
 
 module _ (c : Request) (t : Breakdown) (valid : IsValid c) (h : IsWholeTree c t) where
   -- the whole tree stands in its request
   pub tree-stands : StandsIn c t
   tree-stands = (h.tree, ap (λ n. n % size_of t) (sym (forward_size c)) ∙ (forward_tree c t valid h).divides)
 
-  pub smp-is : (blocks : PlainSmp) → blocks ≡ smp_of (target_of c) (whole_of c t) → IsSmpOf (target_of c) blocks
-  smp-is blocks form = record { whole = whole_of c t; shares = (trees_can_lower c t valid h).shares; form = form }
-
   module _ (blocks : PlainSmp) (vectors : PlainVec) (cut : blocks ≡ smp_of (target_of c) (whole_of c t))
       (turned : vectors ≡ vec_of blocks) where
-    -- the formula for lanes is the tree's
-    pub vec-is : IsVecOf (target_of c) vectors
-    vec-is =
-        let can = trees_can_lower c t valid h in
-        record { whole = whole_of c t; shares = can.shares; good = can.good; form = turned ∙ ap vec_of cut }
-
-    -- and so are its terms, which are merged into its passes
+    -- the terms of the formula for lanes are merged into the tree's passes
     pub tree-merges : (sigma : PlainSigma) (merged : PlainMerged) → sigma ≡ sigma_of vectors →
         merged ≡ merged_of sigma → merged ≡ tree_merged c t
     tree-merges sigma merged lowered made = made ∙ ap merged_of (lowered ∙ ap sigma_of (turned ∙ ap vec_of cut))

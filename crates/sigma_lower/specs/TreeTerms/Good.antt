@@ -1,17 +1,11 @@
--- Steps of one size, with the factors that their permutations need; and formulas for lanes of layouts.
+-- Steps of one size, with the factors that their permutations need.
 use Rattle.std.specs.Prelude.{◌≡◌, ℕ, ◌*◌, ◌<◌, ◌≤◌, List, [], ◌∷◌}
 use Rattle.std.specs.Int.{IsGcd}
 use Rattle.operators.specs.Sizes.{max_size}
 use Rattle.sigma_spl.specs.Work.{PlainWork, tile, copy, HasWords}
-use Rattle.smp_rewrite.specs.Cut.{smp_of}
-use Rattle.smp_rewrite.specs.Fits.{CanShareLayout}
-use Rattle.smp_rewrite.specs.LayoutSteps.Whole.{Whole, IsGoodWhole}
-use Rattle.operators.specs.declared.target.Target.{Target}
 use Rattle.smp_rewrite.specs.LayoutSteps.Meaning.{core_size}
 use Rattle.smp_rewrite.specs.LayoutSteps.Step.{PlainCore, piece, turns, twiddles, thomas_in, thomas_out, PlainStep}
 use Rattle.operators.specs.TensorPaths.Path.{size_under}
-use Rattle.vec_rewrite.specs.Turning.{vec_of}
-use Rattle.vec_rewrite.specs.Vectors.{PlainVec}
 
 pub record AreCoprime (r s : ℕ) : Type 0 where
   pub left : 0 < r
@@ -39,10 +33,3 @@ pub record IsGood (n : ℕ) (s : PlainStep) : Type 0 where
 abbrev pub AreGood : ℕ → List PlainStep → Type 0
 AreGood n [] = Unit {0}
 AreGood n (s ∷ ss) = IsGood n s × AreGood n ss
-
--- the formula for lanes of some good whole that the machine can share
-pub record IsVecOf (h : Target) (g : PlainVec) : Type 0 where
-  pub whole : Whole
-  pub shares : CanShareLayout h whole.layout
-  pub good : IsGoodWhole h.modulus whole
-  pub form : g ≡ vec_of (smp_of h whole)

@@ -13,7 +13,7 @@ use Rattle.smp_rewrite.specs.LayoutSteps.Layout.{layout_of}
 use Rattle.kernel_gen.specs.Nodes.{IsNodeTree}
 use Rattle.sigma_spl.specs.Shared.Targets.{target_of}
 use Rattle.smp_rewrite.specs.LayoutSteps.Whole.{whole_of}
-use Rattle.smp_rewrite.proofs.LayoutSteps.Wholes.{forward_tree, wholes_do, wholes_cost}
+use Rattle.smp_rewrite.proofs.LayoutSteps.Wholes.{forward_tree, wholes_are_good, wholes_do, wholes_cost}
 use Rattle.tree_model.specs.Breakdown.{breakdown_of}
 use Rattle.smp_rewrite.proofs.to_smp.Goals as goal
 
@@ -75,3 +75,21 @@ returns-clause-shape c =
     let valid = c.request-request.ensures.valid in
     subst IsShaped (sym (returns-clause-form c))
     (smp_shaped (target_of request) (whole_of request t) (layouts_fit request t valid c.requires.tree))
+
+pub returns-clause-fits : goal.returns-clause-fits
+returns-clause-fits c =
+    let request = c.args.c.now in
+    let t = breakdown_of c.args.tree.now in
+    let valid = c.request-request.ensures.valid in
+    record {
+      smp = record {
+        whole = whole_of request t;
+        shares = layouts_fit request t valid c.requires.tree;
+        form = returns-clause-form c;
+      };
+      good = wholes_are_good request t valid c.requires.tree;
+    }
+
+pub returns-clause-tree : goal.returns-clause-tree
+returns-clause-tree c =
+    record { valid = c.request-request.ensures.valid; tree = c.requires.tree; form = returns-clause-form c }

@@ -21,4 +21,11 @@ returns c =
       meaning = λ x. ap (λ g. vec_on request.modulus g x) form ∙ keeps.0 x;
       operations = ap (vec_shares request.weight request.modulus) form ∙ keeps.1;
       shape = subst IsLaned (sym form) (vec_shaped h f c.requires);
+      fits = λ of. record {
+        whole = of.smp.whole;
+        shares = of.smp.shares;
+        good = of.good;
+        form = form ∙ ap vec_of of.smp.form;
+      };
+      tree = λ t of. record { valid = of.valid; tree = of.tree; form = form ∙ ap vec_of of.form };
     }

@@ -1,11 +1,10 @@
-use Rattle.std.proofs.Common.{◌∙◌, ap, subst, sym}
+use Rattle.std.proofs.Common.{◌∙◌, ap}
 use Rattle.sigma_spl.specs.Views.{plain_merged, plain_sigma}
 use Rattle.smp_rewrite.specs.Views.{plain_smp}
 use Rattle.tree_model.specs.Breakdown.{breakdown_of}
 use Rattle.vec_rewrite.specs.Views.{plain_vec}
-use Rattle.generate.proofs.TreePasses.Merged.{smp-is, tree-merges, tree-stands, vec-is, trees_are_merged, trees_mean}
+use Rattle.generate.proofs.TreePasses.Merged.{tree-merges, tree-stands, trees_mean}
 use Rattle.sigma_spl.specs.Merged.{merged_on}
-use Rattle.sigma_spl.specs.Trees.{IsMergedTree}
 use Rattle.generate.proofs.tree_passes.merge_tree.Goals as goal
 
 pub expand-requires : goal.expand-requires
@@ -13,15 +12,10 @@ expand-requires c =
     tree-stands c.args.c.now (breakdown_of c.args.tree.now) c.request-request.ensures.valid c.requires
 
 pub to_vec-requires : goal.to_vec-requires
-to_vec-requires c =
-    smp-is c.args.c.now (breakdown_of c.args.tree.now) c.request-request.ensures.valid c.requires
-    (plain_smp c.in_ok-blocks.blocks) c.in_ok-blocks.ensures.form
+to_vec-requires c = c.in_ok-blocks.ensures.fits.smp
 
 pub lower-requires : goal.lower-requires
-lower-requires c =
-    vec-is c.args.c.now (breakdown_of c.args.tree.now) c.request-request.ensures.valid c.requires
-    (plain_smp c.in_ok-blocks.blocks) (plain_vec c.in_ok-vectors.vectors) c.in_ok-blocks.ensures.form
-    c.in_ok-vectors.ensures.form
+lower-requires c = c.in_ok-vectors.ensures.fits c.in_ok-blocks.ensures.fits
 
 -- the passes are the tree's
 pub returns-clause-merged : goal.returns-clause-merged
@@ -37,7 +31,9 @@ returns-clause-meaning c = λ x vector.
     ap (λ g. merged_on c.args.c.now.modulus g x) (returns-clause-merged c)
     ∙ trees_mean c.args.c.now (breakdown_of c.args.tree.now) c.request-request.ensures.valid c.requires x vector
 
+-- and each stage hands on that they are a tree's
 pub returns-clause-tree : goal.returns-clause-tree
 returns-clause-tree c =
-    subst (IsMergedTree c.args.c.now (breakdown_of c.args.tree.now)) (sym (returns-clause-merged c))
-    (trees_are_merged c.args.c.now (breakdown_of c.args.tree.now) c.request-request.ensures.valid c.requires)
+    let t = breakdown_of c.args.tree.now in
+    let vectors = c.in_ok-vectors.ensures.tree t c.in_ok-blocks.ensures.tree in
+    c.in_ok-merged.ensures.tree c.args.c.now t (c.in_ok-sigma.ensures.tree t vectors)
