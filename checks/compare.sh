@@ -90,11 +90,17 @@ prepared() {
   { echo "$1" && cat "$work/data"; } | "$program" run >"$work/wanted"
 }
 
+# says WORDS TEXT: the text says that its arrays may hold these before the first phase
+says() {
+  grep -q ": $1 before the first phase" "$2" || { failed=$((failed + 1)) && echo "does not say $1: $2"; }
+}
+
 # fast_text REQUEST [WORD ..]: as the text
 fast_text() {
   local request=$1
   shift
   echo "$request" | "$program" code | "$fast" "$@" >"$work/text.c"
+  says 'any words' "$work/text.c"
 }
 
 # functions REQUEST [WORD ..]: as a function, and as another one with these words, each with its header
@@ -203,6 +209,49 @@ END
   compared "fast text of a listing" gcc -O1 -g -fsanitize=address,undefined
 }
 
+# by_listing BEFORE NAME [WORD ..]: the fast text of $work/listing, whose arrays may hold this before the first phase
+by_listing() {
+  local before=$1 name=$2
+  shift 2
+  vectors "$(sed -n '1s/.* size \([0-9]*\) .*/\1/p' "$work/listing")" 5 >"$work/data"
+  { cat "$work/listing" && echo && cat "$work/data"; } | "$program" exec >"$work/wanted"
+  "$fast" "$@" <"$work/listing" >"$work/text.c"
+  says "$before" "$work/text.c"
+  compared "fast text of $name" gcc -O2
+  compared "fast text of $name" clang -O2
+}
+
+# by_formula MODULUS FORMULA [WORD ..]: the fast text of its listing
+by_formula() {
+  local modulus=$1 formula=$2
+  shift 2
+  echo "$formula" | "$program" compile --mod "$modulus" >"$work/listing"
+  by_listing 'any words' "$formula" "$@"
+}
+
+# by_convolution REQUEST LIST [WORD ..]: the fast text of its listing
+by_convolution() {
+  local request=$1 list=$2
+  shift 2
+  { echo "$request" && echo "$list"; } | "$program" convolve --code >"$work/listing"
+  by_listing 'any words' "$request" "$@"
+}
+
+# A listing that loads a word that it has not stored: before each vector that is 0, as `exec` has it
+leftover_word() {
+  cat >"$work/listing" <<'END'
+program size 2 mod 17 procs 1 line 1 lanes 1 regs 2
+phase
+ld r0 X[0]
+ld r1 A[0]
+add r1 r0 r1
+st A[0] r1
+st Y[0] r1
+st Y[1] r0
+END
+  by_listing 0 'a listing with leftovers'
+}
+
 while read -r request; do
   [ -n "$request" ] || continue
   begin by_fast_request "$request"
@@ -216,6 +265,11 @@ while read -r request; do
 done <"$top/checks/requests"
 begin sanitized "$last"
 begin constant_place
+begin leftover_word
+begin by_formula 17 'SUM(TIMES(LEFT(DFT(2,16),2),L(4,2)),DFT(9,2))'
+begin by_formula 2147389441 'TIMES(WHT(64),L(64,8))' --lanes 4
+begin by_convolution 'conv 4 mod 17 root 4 unroll 2' '1 2 0 0'
+begin by_convolution 'conv 4 mod 17 root 4' '1 2 0 0' --lanes 2
 wait
 
 passed=0

@@ -1,7 +1,8 @@
 /*
  * Runs two functions of `spiral-fast --name` for one transform, each in a thread of its own over arrays of its own, and
  * then the first one phase by phase, with a thread for each processor. Reads vectors of numbers from standard input, and
- * writes the line of each result. The three results have to be the same.
+ * writes the line of each result. The three results have to be the same, where each byte of the arrays but the vector's is
+ * 0xa5 before.
  *
  * checks/compile_named.sh says with which macros it is compiled.
  */
@@ -10,6 +11,7 @@
 #include <stdalign.h>
 #include <stdio.h>
 #include <stdlib.h>
+#include <string.h>
 
 #include FIRST_HEADER
 #include SECOND_HEADER
@@ -79,6 +81,18 @@ static int read_vector(void) {
     return 1;
 }
 
+/* Words that are no residues, where the headers say that any may stand. */
+static void spoil(void) {
+    memset(in + SIZE, 165, sizeof in - SIZE * sizeof *in);
+    memset(second_in + SIZE, 165, sizeof second_in - SIZE * sizeof *second_in);
+    memset(out, 165, sizeof out);
+    memset(phased, 165, sizeof phased);
+    memset(second_out, 165, sizeof second_out);
+    memset(work, 165, sizeof work);
+    memset(phase_work, 165, sizeof phase_work);
+    memset(second_work, 165, sizeof second_work);
+}
+
 static int are_same(void) {
     for (size_t k = 0; k < SIZE; k++)
         if (out[k] != second_out[k] || out[k] != phased[k])
@@ -89,6 +103,7 @@ static int are_same(void) {
 int main(void) {
     int read;
     while ((read = read_vector()) == 1) {
+        spoil();
         run_functions();
         run_phases();
         if (!are_same()) {

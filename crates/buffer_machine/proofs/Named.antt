@@ -7,7 +7,7 @@ use Rattle.std.proofs.lemmas.Bool.{leb-false}
 use Rattle.icode.specs.Buffers.{proc_of}
 use Rattle.icode.specs.declared.event.Event.{Event}
 use Rattle.icode.specs.declared.event.Event.TheVariants.{Turn}
-use Rattle.request_text.specs.Turns.{turns_of}
+use Rattle.schedules.specs.Turns.{turns_of}
 use Rattle.par_machine.proofs.Schedules.{turns_there}
 use Rattle.buffer_machine.specs.declared.events.Events.{Events}
 use Rattle.buffer_machine.specs.declared.events.Events.TheVariants.{Turns, Mixed}

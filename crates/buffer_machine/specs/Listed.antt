@@ -3,7 +3,7 @@ use Rattle.std.specs.Prelude.{◌≡◌, ℕ, List, None, map, find, nat_le}
 use Rattle.icode.specs.Buffers.{proc_of}
 use Rattle.icode.specs.declared.event.Event.{Event}
 use Rattle.icode.specs.declared.event.Event.TheVariants.{Turn}
-use Rattle.request_text.specs.Turns.{named, turns_of}
+use Rattle.schedules.specs.Turns.{named, turns_of}
 use Rattle.buffer_machine.specs.declared.events.Events.{Events}
 use Rattle.buffer_machine.specs.declared.events.Events.TheVariants.{Turns, Mixed}
 

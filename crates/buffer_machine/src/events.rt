@@ -4,7 +4,7 @@ ghost use Rattle.std.specs.Prelude.{◌≡◌, ◌<◌, ◌≤◌, Some, length,
 ghost use Rattle.buffer_machine.specs.Listed.{events_of};
 
 use icode::event::Event;
-use request_text::{Mix, Schedule};
+use schedules::{Mix, Schedule};
 
 /// What is done before a run is completed.
 #[derive(Clone, Copy, Debug)]

@@ -14,4 +14,7 @@ pub mod Lives
 pub mod Exact
 pub mod Decided
 pub mod Marks
+pub mod MarksComplete
+pub mod Knowing
+pub mod KnownPhases
 mod FreshExamples

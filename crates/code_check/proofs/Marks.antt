@@ -5,7 +5,7 @@ use Rattle.std.proofs.Common.{replicate, map, get_or-set_other}
 use Rattle.std.specs.Prelude.{slice_get, slice_set}
 use Rattle.std.specs.List.{range_with_len}
 use Rattle.std.proofs.lemmas.Bool.{cases_eq, cases_lt, false≢true}
-use Rattle.std.proofs.lemmas.List.{length-map, length-replicate, get_or-replicate, get_or_past, get_or-append_right}
+use Rattle.std.proofs.lemmas.List.{length-map, length-replicate, get_or-replicate, get_or_past}
 use Rattle.std.proofs.lemmas.Nat.{div-add-mod', mod_below}
 use Rattle.std.proofs.lemmas.List.Elements.{Contains-append_cases, Contains-append_left, Contains-append_right}
 use Rattle.icode.specs.declared.action.Action.{Action}
@@ -27,7 +27,7 @@ use Rattle.code_check.specs.Marks.{words_after_processors, phases_known, words_a
 
 -- ---- marks
 
-abbrev Marked : List Bool → ℕ → Type 0
+abbrev pub Marked : List Bool → ℕ → Type 0
 Marked marks k = is_marked marks k ≡ true
 
 marked-set : (marks : List Bool) (i k : ℕ) → Marked (slice_set marks i true) k → Marked marks k ⊎ (i ≡ k)
@@ -131,10 +131,10 @@ registers-marked lanes (Tile r x) registers k h = marked-with lanes registers r 
 -- ---- lists
 
 module _ (lanes : ℕ) where
-  abbrev LoadKnown : (ℕ → Type 0) → List Action → Type 0
+  abbrev pub LoadKnown : (ℕ → Type 0) → List Action → Type 0
   LoadKnown K actions = lists.ReadKnown (loaded_words lanes) (stored_words lanes) K actions
 
-  abbrev ReadPut : (ℕ → Type 0) → List Action → Type 0
+  abbrev pub ReadPut : (ℕ → Type 0) → List Action → Type 0
   ReadPut K actions = lists.ReadKnown (read_registers lanes) (put_registers lanes) K actions
 
   list-known : (actions : List Action) (m : Marks) → read_known lanes actions m ≡ true →
@@ -268,14 +268,11 @@ module _ (p : PlainProgram) where
 
   input-known : (k : ℕ) → Marked (input_marks p) k → k < p.size
   input-known k h =
-      let rest = 4 * whole_lines p.size p.line - p.size in
       ⊎_elim
-      (λ (low : k < p.size). low)
-      (λ (past : p.size ≤ k).
-      let long : length (replicate p.size true) ≡ p.size = length-replicate {A = Bool} p.size true in
-      absurd (unmarked rest (k - p.size)
-      (sym (get_or-append_right (replicate p.size true) (replicate rest false) p.size k false long past) ∙ h)))
-      (cases_lt k p.size)
+      (λ (before : Marked (replicate (4 * whole_lines p.size p.line) false) k).
+      absurd (unmarked (4 * whole_lines p.size p.line) k before))
+      (λ (now : Contains (range_with_len 0 p.size) k). let item = range_item 0 p.size k now in omega (arith, item.1))
+      (marked-with p.size (replicate (4 * whole_lines p.size p.line) false) 0 k h)
 
   -- ---- the program
 
@@ -283,7 +280,7 @@ module _ (p : PlainProgram) where
   code = plain_code p
 
   -- an array has room for its words
-  size_room : (size line : ℕ) → 1 ≤ line → size ≤ whole_lines size line
+  pub size_room : (size line : ℕ) → 1 ≤ line → size ≤ whole_lines size line
   size_room size line some =
       let a = div-add-mod' (size + (line - 1)) line in
       let b = mod_below (size + (line - 1)) line some in

@@ -2,6 +2,7 @@ pub mod Refusals
 pub mod Uses
 pub mod Walk
 pub mod Marks
+pub mod MarkTables
 pub mod Tables
 pub mod Phases
 pub mod Faults

@@ -1,5 +1,5 @@
 -- A walk over actions that marks the words and the registers that are known.
-use Rattle.std.specs.Prelude.{ℕ, zero, suc, ◌+◌, ◌*◌, ◌-◌, ◌&&◌, List, [], ◌∷◌, ◌++◌, Bool, true, false, length, replicate, slice_index_or, slice_set}
+use Rattle.std.specs.Prelude.{ℕ, zero, suc, ◌+◌, ◌*◌, ◌&&◌, List, [], ◌∷◌, Bool, true, false, length, replicate, slice_index_or, slice_set}
 use Rattle.icode.specs.declared.action.Action.{Action}
 use Rattle.icode.specs.declared.action.Action.TheVariants.{Load, Store, Zero, Add, Sub, Neg, Mul, Tile}
 use Rattle.icode.specs.Actions.{actions_of, steps_of_phase}
@@ -101,7 +101,7 @@ words_after_phases p (suc n) phase words = words_after_phases p n (phase + 1) (w
 
 -- the words of the input are known at first
 abbrev pub input_marks : PlainProgram → List Bool
-input_marks p = replicate p.size true ++ replicate (4 * whole_lines p.size p.line - p.size) false
+input_marks p = with_marks p.size (replicate (4 * whole_lines p.size p.line) false) 0
 
 -- each action reads what is known, and in the end all words of the result are
 abbrev pub is_fresh : PlainProgram → Bool

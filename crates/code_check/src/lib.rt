@@ -4,9 +4,11 @@
 mod check;
 mod count;
 mod fault;
+mod fresh;
 pub mod laws;
 mod lines;
 mod live;
+mod mark_table;
 mod phase;
 mod place;
 mod registers;
@@ -14,3 +16,4 @@ mod walk;
 
 pub use check::{Verified, verify};
 pub use fault::{CheckFault, STEP_LIMIT};
+pub use fresh::is_fresh;

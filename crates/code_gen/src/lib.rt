@@ -2,6 +2,7 @@
 #![tactic(auto)]
 
 mod copy_statements;
+mod emitting;
 mod factors;
 mod host;
 mod inputs;
@@ -15,7 +16,6 @@ mod pass_actions;
 mod pass_code;
 mod places;
 mod program;
-mod requests;
 mod row_statements;
 mod site;
 mod statements;
@@ -23,8 +23,8 @@ mod tables;
 mod tile_statements;
 mod work;
 
+pub use emitting::{emit, emit_formula, emit_joined};
 pub use host::Frame;
 pub use pass_actions::passes_run;
 pub use pass_code::{expressions_are_within, passes_are_emitted, tested_sums_are_coded};
 pub use places::place_expr;
-pub use requests::{emit, emit_formula, emit_joined};

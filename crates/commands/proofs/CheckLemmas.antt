@@ -5,28 +5,28 @@ use Rattle.std.proofs.KnownBytes.{Appends-nil}
 use Rattle.std.specs.declared.option.Option.{Option}
 use Rattle.std.specs.Io.KnownBytes.{Appends, Consumes}
 use Rattle.io_edge.specs.Told.{IsOver}
-use Rattle.data_stream.specs.InputRest.Rest.{GivesRest}
-use Rattle.data_stream.specs.declared.input_rest.RestFault.{RestFault}
-use Rattle.data_stream.specs.declared.input_rest.RestFault.TheVariants as rest_fault
+use Rattle.data_stream.specs.Parts.Rest.{GivesRest}
+use Rattle.data_stream.specs.declared.parts.RestFault.{RestFault}
+use Rattle.data_stream.specs.declared.parts.RestFault.TheVariants as rest_fault
 use Rattle.generate.specs.Planned.{IsAdmitted, IsBarred}
 use Rattle.io_edge.specs.Taken.{AppendsPrefix}
 use Rattle.matrix_meaning.specs.declared.Request.{Request}
 use Rattle.plan_cert.specs.Verdict.{IsVerdict}
 use Rattle.plan_cert.specs.declared.verdict.Verdict.{Verdict}
 use Rattle.plan_cert.specs.declared.verdict.Verdict.TheVariants as verdict
-use Rattle.plan_search.specs.declared.generating.GenerateFault.{GenerateFault}
-use Rattle.spiral_words.specs.SpiralStatus.Fault.{status_of_generate, status_of_rest}
-use Rattle.spiral_words.specs.declared.spiral_status.status.Status.TheVariants.{WriteFault}
+use Rattle.generate_faults.specs.declared.generate_fault.GenerateFault.{GenerateFault}
+use Rattle.spiral_words.specs.Statuses.Fault.{status_of_generate, status_of_rest}
+use Rattle.spiral_words.specs.declared.statuses.status.Status.TheVariants.{WriteFault}
 use Rattle.commands.specs.Checked.{certificate_limit, status_of_verdict, least_line, verdict_text}
 use Rattle.commands.specs.Equations.Check.{fitting}
 use Rattle.commands.specs.Equations.Front.{Work, staged}
 use Rattle.commands.specs.Equations.Works.{judging}
-use Rattle.commands.specs.SpiralInput.Outcomes.{Meets, SourceMeets}
+use Rattle.commands.specs.Input.Outcomes.{Meets, SourceMeets}
 use Rattle.commands.proofs.Documents.{generate_refusal}
-use Rattle.commands.proofs.SpiralInput.StageLemmas.{stage_refused, stage_told}
+use Rattle.commands.proofs.Inputs.StageLemmas.{stage_refused, stage_told}
 use Rattle.io_edge.proofs.ToldLemmas.{over_left}
-use Rattle.commands.proofs.SpiralInput.OutcomeLemmas.{answered_meets, broken_meets, cut_meets, meets_nothing}
-use Rattle.commands.proofs.SpiralInput.OutcomeLemmas.{told_nothing}
+use Rattle.commands.proofs.Inputs.OutcomeLemmas.{answered_meets, broken_meets, cut_meets, meets_nothing}
+use Rattle.commands.proofs.Inputs.OutcomeLemmas.{told_nothing}
 
 abbrev pub judges : Request → Work
 judges request = judging (IsVerdict request)

@@ -10,21 +10,21 @@ use Rattle.icode.specs.declared.program.Program.{Program}
 use Rattle.io_edge.specs.Taken.{AppendsPrefix}
 use Rattle.listing_text.specs.Listing.{listing_of}
 use Rattle.matrix_meaning.specs.declared.Request.{Request}
-use Rattle.plan_search.specs.declared.generating.GenerateFault.{GenerateFault}
-use Rattle.plan_search.specs.declared.generating.GenerateFault.TheVariants as generate
-use Rattle.spiral_words.specs.SpiralStatus.Fault.{status_of_generate}
+use Rattle.generate_faults.specs.declared.generate_fault.GenerateFault.{GenerateFault}
+use Rattle.generate_faults.specs.declared.generate_fault.GenerateFault.TheVariants as generate
+use Rattle.spiral_words.specs.Statuses.Fault.{status_of_generate}
 use Rattle.spiral_words.specs.declared.Document.{Document}
 use Rattle.spiral_words.specs.declared.Document.TheVariants as document
-use Rattle.spiral_words.specs.declared.spiral_status.status.Status.TheVariants.{Success, WriteFault}
+use Rattle.spiral_words.specs.declared.statuses.status.Status.TheVariants.{Success, WriteFault}
 use Rattle.tree_model.specs.Breakdown.{Breakdown}
 use Rattle.commands.specs.Equations.Orders.{Planned, chosen}
 use Rattle.commands.specs.Equations.Requests.{IsDocument, IsDocumentText, document_work}
 use Rattle.commands.specs.Equations.Front.{staged}
 use Rattle.commands.specs.Programs.{IsProgramFor}
-use Rattle.commands.specs.SpiralInput.Outcomes.{Meets}
-use Rattle.commands.specs.SpiralInput.Refusals.{IsRefusal}
-use Rattle.commands.proofs.SpiralInput.OutcomeLemmas.{answered_meets, cut_meets}
-use Rattle.commands.proofs.SpiralInput.StageLemmas.{stage_meets}
+use Rattle.commands.specs.Input.Outcomes.{Meets}
+use Rattle.commands.specs.Input.Refusals.{IsRefusal}
+use Rattle.commands.proofs.Inputs.OutcomeLemmas.{answered_meets, cut_meets}
+use Rattle.commands.proofs.Inputs.StageLemmas.{stage_meets}
 
 -- a fault of the making refuses the request
 pub generate_refusal : (fault : GenerateFault) → IsRefusal (status_of_generate fault)

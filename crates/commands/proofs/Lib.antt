@@ -1,7 +1,7 @@
 pub mod ConvolutionCommands
 pub mod ListingCommands
 pub mod FormulaCommands
-pub mod SpiralInput
+pub mod Inputs
 pub mod CheckLemmas
 pub mod CountLemmas
 pub mod Documents

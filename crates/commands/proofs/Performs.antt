@@ -11,13 +11,13 @@ use Rattle.commands.specs.Equations.Orders.{Planned, chosen, planned, turned}
 use Rattle.commands.specs.Equations.Requests.{document_outcomes, document_work, outcomes_by_request, work_for}
 use Rattle.commands.specs.Equations.Run.{run_work}
 use Rattle.commands.specs.Equations.Trace.{trace_work}
-use Rattle.commands.specs.SpiralInput.Asking.{spelt}
-use Rattle.commands.specs.SpiralInput.Commands.{procs_named}
-use Rattle.commands.specs.SpiralInput.Outcomes.{Outcomes}
-use Rattle.commands.specs.SpiralInput.Stage.{◌>>=◌}
+use Rattle.commands.specs.Input.Asking.{spelt}
+use Rattle.commands.specs.Input.Commands.{procs_named}
+use Rattle.commands.specs.Input.Outcomes.{Outcomes}
+use Rattle.commands.specs.Input.Stage.{◌>>=◌}
 use Rattle.commands.proofs.CheckLemmas.{checking, judges}
-use Rattle.commands.proofs.SpiralInput.Nested.{no_unit}
-use Rattle.commands.proofs.SpiralInput.Within.{Within, within_then, front_within, front_join}
+use Rattle.commands.proofs.Inputs.Nested.{no_unit}
+use Rattle.commands.proofs.Inputs.Within.{Within, within_then, front_within, front_join}
 
 -- what is right by the line of a request, and then after it
 abbrev pub by_line : RequestCommand → Outcomes

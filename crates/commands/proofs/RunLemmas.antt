@@ -21,15 +21,15 @@ use Rattle.listing_text.specs.Listing.{listing_of}
 use Rattle.matrix_meaning.specs.Asked.{asked_of}
 use Rattle.matrix_meaning.specs.Valid.{IsInRange}
 use Rattle.matrix_meaning.specs.declared.Request.{Request}
-use Rattle.request_text.specs.Schedule.{Plan}
-use Rattle.request_text.specs.Turns.{turns_of}
+use Rattle.schedules.specs.Schedule.{Plan}
+use Rattle.schedules.specs.Turns.{turns_of}
 use Rattle.runs.proofs.StreamLemmas.{texts_same}
 use Rattle.runs.specs.Stream.{HasNoStranger, lines, texts, vectors_of}
 use Rattle.runs.specs.Texts.{buffered_text}
 use Rattle.spiral_words.specs.declared.Order.{Order}
 use Rattle.spiral_words.specs.declared.Order.TheVariants as order
 use Rattle.spiral_words.specs.declared.RequestCommand.TheVariants as command
-use Rattle.spiral_words.specs.declared.spiral_status.status.Status.{Status}
+use Rattle.spiral_words.specs.declared.statuses.status.Status.{Status}
 use Rattle.commands.specs.Equations.Orders.{chosen}
 use Rattle.commands.specs.Equations.Requests.{work_for}
 use Rattle.commands.specs.Equations.Run.{run_work}
@@ -38,15 +38,15 @@ use Rattle.commands.specs.Equations.Works.{all, mapping}
 use Rattle.commands.specs.OrderText.{order_text}
 use Rattle.commands.specs.Prepared.{stream_work}
 use Rattle.commands.specs.Programs.{IsProgramFor}
-use Rattle.commands.specs.SpiralInput.Commands.{first_stranger}
-use Rattle.commands.specs.SpiralInput.Orders.{procs_in}
-use Rattle.commands.specs.SpiralInput.Outcomes.{SourceMeets}
+use Rattle.commands.specs.Input.Commands.{first_stranger}
+use Rattle.commands.specs.Input.Orders.{procs_in}
+use Rattle.commands.specs.Input.Outcomes.{SourceMeets}
 use Rattle.commands.proofs.Documents.{with_tree}
 use Rattle.commands.proofs.Programs.{IsGoodCode, code_made, good_code, program_modulus, program_procs, program_size}
 use Rattle.commands.proofs.Requests.{limits}
-use Rattle.commands.proofs.SpiralInput.DataLemmas.{lines_equal, turns_below}
-use Rattle.commands.proofs.SpiralInput.StageLemmas.{stage_told}
-use Rattle.commands.proofs.SpiralInput.Within.{told_within}
+use Rattle.commands.proofs.Inputs.DataLemmas.{lines_equal, turns_below}
+use Rattle.commands.proofs.Inputs.StageLemmas.{stage_told}
+use Rattle.commands.proofs.Inputs.Within.{told_within}
 use Rattle.commands.proofs.StreamLemmas.{mapping_within}
 
 -- The program's processors

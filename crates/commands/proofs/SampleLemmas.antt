@@ -20,8 +20,8 @@ use Rattle.generate.specs.Emission.Whole.{emission}
 use Rattle.icode.proofs.Lists.{code_is}
 use Rattle.icode.proofs.Runs.{counts_of_runs}
 use Rattle.par_machine.proofs.Executed.{AreSmall, counts_small}
-use Rattle.request_text.specs.Schedule.{Plan}
-use Rattle.request_text.specs.Turns.{next_state, state_after, turns_of}
+use Rattle.schedules.specs.Schedule.{Plan}
+use Rattle.schedules.specs.Turns.{next_state, state_after, turns_of}
 use Rattle.generate.specs.Good.{IsVector}
 use Rattle.tree_model.specs.WholePasses.{whole_loads, whole_stores}
 use Rattle.matrix_meaning.specs.Asked.{asked_of}

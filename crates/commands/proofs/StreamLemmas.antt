@@ -13,26 +13,26 @@ use Rattle.icode.specs.Program.{code_of}
 use Rattle.icode.specs.declared.program.Program.{Program}
 use Rattle.io_edge.specs.Feed.{Fed, limit}
 use Rattle.io_edge.specs.Taken.{AppendsPrefix}
-use Rattle.request_text.specs.Schedule.{Plan}
-use Rattle.request_text.specs.Turns.{turns_of}
+use Rattle.schedules.specs.Schedule.{Plan}
+use Rattle.schedules.specs.Turns.{turns_of}
 use Rattle.runs.proofs.StreamLemmas.{vectors_few}
 use Rattle.runs.specs.Stream.{Streams, bad_after, good_front, texts, vectors_of, vectors_seen}
 use Rattle.runs.specs.Texts.{buffered_text, run_text}
 use Rattle.runs.specs.declared.stream.StreamFault.{StreamFault}
 use Rattle.runs.specs.declared.stream.StreamFault.TheVariants as stream
-use Rattle.spiral_words.specs.SpiralStatus.Fault.{status_of_stream}
+use Rattle.spiral_words.specs.Statuses.Fault.{status_of_stream}
 use Rattle.spiral_words.specs.declared.Order.{Order}
 use Rattle.spiral_words.specs.declared.Order.TheVariants as order
-use Rattle.spiral_words.specs.declared.spiral_status.status.Status.TheVariants.{WriteFault}
+use Rattle.spiral_words.specs.declared.statuses.status.Status.TheVariants.{WriteFault}
 use Rattle.commands.specs.Equations.Front.{Work}
 use Rattle.commands.specs.Equations.Works.{all, mapping}
 use Rattle.commands.specs.OrderText.{order_of, order_text}
 use Rattle.commands.specs.Prepared.{stream_text, stream_work}
-use Rattle.commands.specs.SpiralInput.Outcomes.{SourceMeets}
+use Rattle.commands.specs.Input.Outcomes.{SourceMeets}
 use Rattle.commands.specs.declared.streams.Prepared.{Prepared}
-use Rattle.commands.proofs.SpiralInput.DataLemmas.{streams_told}
-use Rattle.commands.proofs.SpiralInput.OutcomeLemmas.{cut_meets, unread_meets}
-use Rattle.commands.proofs.SpiralInput.Within.{Within}
+use Rattle.commands.proofs.Inputs.DataLemmas.{streams_told}
+use Rattle.commands.proofs.Inputs.OutcomeLemmas.{cut_meets, unread_meets}
+use Rattle.commands.proofs.Inputs.Within.{Within}
 
 -- The front is not written whole
 

@@ -3,8 +3,8 @@ use Rattle.std.specs.Prelude.{◌≡◌, ℕ, ◌<◌, List, [], ◌∷◌, leng
 use Rattle.std.specs.List.{concat}
 use Rattle.plan_cert.specs.declared.verdict.Verdict.{Verdict}
 use Rattle.plan_cert.specs.declared.verdict.Verdict.TheVariants as verdict
-use Rattle.spiral_words.specs.declared.spiral_status.status.Status.{Status}
-use Rattle.spiral_words.specs.declared.spiral_status.status.Status.TheVariants.{Success, TooLong, Unread, Wrong}
+use Rattle.spiral_words.specs.declared.statuses.status.Status.{Status}
+use Rattle.spiral_words.specs.declared.statuses.status.Status.TheVariants.{Success, TooLong, Unread, Wrong}
 
 -- how many bytes a certificate has at most
 abbrev pub certificate_limit : ℕ

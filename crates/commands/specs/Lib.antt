@@ -1,7 +1,7 @@
 pub mod ConvolutionCommands
 pub mod ListingCommands
 pub mod FormulaCommands
-pub mod SpiralInput
+pub mod Input
 pub mod Checked
 pub mod Equations
 pub mod OrderText

@@ -2,7 +2,7 @@
 use Rattle.std.specs.Prelude.{ℕ, Bool, List, map}
 use Rattle.icode.specs.declared.event.Event.TheVariants.{Turn}
 use Rattle.icode.specs.Machine.{Code}
-use Rattle.request_text.specs.Turns.{turns_of}
+use Rattle.schedules.specs.Turns.{turns_of}
 use Rattle.buffer_machine.specs.declared.Events.{Events}
 use Rattle.buffer_machine.specs.declared.Events.TheVariants as events
 use Rattle.spiral_words.specs.declared.Order.{Order}

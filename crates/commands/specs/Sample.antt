@@ -3,7 +3,7 @@ use Rattle.std.specs.Prelude.{◌≡◌, ℕ, ◌+◌, ◌*◌, ◌%◌, ◌^◌
 use Rattle.operators.specs.Sum.{sum_below, list_below}
 use Rattle.icode.specs.declared.action.Counts.{Counts}
 use Rattle.icode.specs.Machine.{Code, State, counts_so_far}
-use Rattle.request_text.specs.Turns.{state_after}
+use Rattle.schedules.specs.Turns.{state_after}
 
 -- the vector of a seed: numbers of the generator, reduced
 abbrev pub sample_vector : ℕ → ℕ → ℕ → List ℕ

@@ -6,9 +6,9 @@ ghost use Rattle.io_edge.specs.Faults.{HasCause};
 ghost use Rattle.io_edge.specs.Feed.{to_come, limit};
 ghost use Rattle.io_edge.specs.Taken.{WritesAll};
 ghost use Rattle.commands.specs.Checked.{least_line};
-ghost use Rattle.commands.specs.SpiralInput.Stage.{status_of};
-ghost use Rattle.commands.specs.SpiralInput.Ends.{EndsCleanly};
-ghost use Rattle.commands.specs.SpiralInput.Outcomes.{SourceMeets};
+ghost use Rattle.commands.specs.Input.Stage.{status_of};
+ghost use Rattle.commands.specs.Input.Ends.{EndsCleanly};
+ghost use Rattle.commands.specs.Input.Outcomes.{SourceMeets};
 ghost use Rattle.commands.specs.Equations.Requests.{work_for};
 
 use data_stream::read_rest;

@@ -3,10 +3,10 @@ ghost use Rattle.std.specs.Prelude.{◌≡◌, ◌-◌, ◌≤◌};
 ghost use Rattle.io_edge.specs.Told.{IsOver};
 ghost use Rattle.matrix_meaning.specs.Valid.{IsInRange};
 ghost use Rattle.io_edge.specs.Feed.{to_come, limit};
-ghost use Rattle.commands.specs.SpiralInput.Commands.{NamesNoStranger};
-ghost use Rattle.commands.specs.SpiralInput.Stage.{status_of};
-ghost use Rattle.commands.specs.SpiralInput.Ends.{EndsCleanly};
-ghost use Rattle.commands.specs.SpiralInput.Outcomes.{SourceMeets};
+ghost use Rattle.commands.specs.Input.Commands.{NamesNoStranger};
+ghost use Rattle.commands.specs.Input.Stage.{status_of};
+ghost use Rattle.commands.specs.Input.Ends.{EndsCleanly};
+ghost use Rattle.commands.specs.Input.Outcomes.{SourceMeets};
 ghost use Rattle.commands.specs.Equations.Requests.{work_for};
 
 use crate::streams::{Prepared, stream};

@@ -3,10 +3,10 @@ ghost use Rattle.std.specs.Prelude.{◌≡◌, true};
 ghost use Rattle.io_edge.specs.Told.{IsOver};
 ghost use Rattle.io_edge.specs.Feed.{to_come};
 ghost use Rattle.commands.specs.Equations.Commands.{outcomes_by_formula};
-ghost use Rattle.commands.specs.SpiralInput.Commands.{reads_rest};
-ghost use Rattle.commands.specs.SpiralInput.Ends.{EndsCleanly};
-ghost use Rattle.commands.specs.SpiralInput.Outcomes.{SourceMeets};
-ghost use Rattle.commands.specs.SpiralInput.Stage.{status_of};
+ghost use Rattle.commands.specs.Input.Commands.{reads_rest};
+ghost use Rattle.commands.specs.Input.Ends.{EndsCleanly};
+ghost use Rattle.commands.specs.Input.Outcomes.{SourceMeets};
+ghost use Rattle.commands.specs.Input.Stage.{status_of};
 
 mod apply;
 mod compile;

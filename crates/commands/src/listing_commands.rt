@@ -6,21 +6,21 @@ ghost use Rattle.io_edge.specs.Feed.{to_come};
 ghost use Rattle.icode.specs.Program.{Fits, plain_program};
 ghost use Rattle.commands.specs.Equations.Exec.{exec_outcomes};
 ghost use Rattle.commands.specs.ListingCommands.Listed.{loaded, GivesListing};
-ghost use Rattle.commands.specs.SpiralInput.Ends.{EndsCleanly, ReadsCleanly};
-ghost use Rattle.commands.specs.SpiralInput.Outcomes.{SourceMeets};
-ghost use Rattle.commands.specs.SpiralInput.Stage.{status_of};
-ghost use Rattle.spiral_words.specs.SpiralStatus.Status.{IsDefined};
-ghost use Rattle.commands.specs.SpiralInput.Refusals.{IsRefusal};
+ghost use Rattle.commands.specs.Input.Ends.{EndsCleanly, ReadsCleanly};
+ghost use Rattle.commands.specs.Input.Outcomes.{SourceMeets};
+ghost use Rattle.commands.specs.Input.Stage.{status_of};
+ghost use Rattle.spiral_words.specs.Statuses.Status.{IsDefined};
+ghost use Rattle.commands.specs.Input.Refusals.{IsRefusal};
 ghost use Rattle.runs.specs.Stream.{HasNoStranger};
 
-use crate::spiral_input::check_turns;
+use crate::input::check_turns;
 use crate::streams::{Prepared, stream_turns};
 use code_check::verify;
 use data_stream::{RestFault, read_part};
 use icode::program::Program;
 use io_edge::{Feed, Sink, Source};
 use listing_text::read_listing;
-use request_text::Schedule;
+use schedules::Schedule;
 use spiral_words::Status;
 use std::alloc::Global;
 

@@ -7,8 +7,8 @@ ghost use Rattle.tree_model.specs.Chosen.{whole_cost};
 ghost use Rattle.commands.specs.PlanText.{plan_text};
 ghost use Rattle.commands.specs.Equations.Orders.{chosen};
 ghost use Rattle.commands.specs.Equations.Requests.{IsDocument};
-ghost use Rattle.spiral_words.specs.SpiralStatus.Status.{IsDefined};
-ghost use Rattle.commands.specs.SpiralInput.Refusals.{IsRefusal};
+ghost use Rattle.spiral_words.specs.Statuses.Status.{IsDefined};
+ghost use Rattle.commands.specs.Input.Refusals.{IsRefusal};
 
 use breakdown::expand;
 use generate::plan;

@@ -7,8 +7,8 @@ ghost use Rattle.commands.specs.Equations.Requests.{IsDocument};
 ghost use Rattle.commands.specs.Programs.{IsCodeFor};
 ghost use Rattle.commands.specs.Sample.{AreCountable, AreTotals};
 ghost use Rattle.commands.specs.Sample.{sample_vector, weighted_sum, sample_text};
-ghost use Rattle.spiral_words.specs.SpiralStatus.Status.{IsDefined};
-ghost use Rattle.commands.specs.SpiralInput.Refusals.{IsRefusal};
+ghost use Rattle.spiral_words.specs.Statuses.Status.{IsDefined};
+ghost use Rattle.commands.specs.Input.Refusals.{IsRefusal};
 ghost use Rattle.runs.specs.Stream.{HasNoStranger};
 
 use crate::texts::good_program;
@@ -17,9 +17,9 @@ use listing_text::put;
 use matrix_meaning::Request;
 use memory::NoMemory;
 use par_machine::Machine;
-use request_text::{Schedule, next_state};
 use ring_mod::Modulus;
 use runs::transform;
+use schedules::{Schedule, next_state};
 use spiral_words::{Document, Status};
 use std::alloc::Global;
 

@@ -2,9 +2,9 @@
 ghost use Rattle.std.specs.Prelude.{Err, IfOk, IfErr};
 ghost use Rattle.icode.specs.Program.{Fits};
 ghost use Rattle.matrix_meaning.specs.Valid.{IsInRange};
-ghost use Rattle.commands.specs.SpiralInput.Commands.{NamesNoStranger};
-ghost use Rattle.spiral_words.specs.SpiralStatus.Status.{IsDefined};
-ghost use Rattle.commands.specs.SpiralInput.Refusals.{IsRefusal};
+ghost use Rattle.commands.specs.Input.Commands.{NamesNoStranger};
+ghost use Rattle.spiral_words.specs.Statuses.Status.{IsDefined};
+ghost use Rattle.commands.specs.Input.Refusals.{IsRefusal};
 ghost use Rattle.commands.specs.Equations.Orders.{chosen};
 ghost use Rattle.commands.specs.Equations.Requests.{IsDocument};
 ghost use Rattle.commands.specs.Programs.{IsProgramFor};

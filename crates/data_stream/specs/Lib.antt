@@ -1,4 +1,4 @@
-pub mod InputRest
+pub mod Parts
 pub mod Data
 pub mod Ending
 pub mod Held

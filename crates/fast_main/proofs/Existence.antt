@@ -10,7 +10,7 @@ use Rattle.clap.specs.Walk.{is_empty}
 use Rattle.code_check.proofs.Decided.{decided}
 use Rattle.code_check.proofs.Whole.{passed_fits}
 use Rattle.code_check.specs.Refusals.{PassesCheck, action_limit}
-use Rattle.data_stream.specs.InputRest.Part.{first_part}
+use Rattle.data_stream.specs.Parts.Part.{first_part}
 use Rattle.icode.specs.Limits.{IsWithinLimits}
 use Rattle.icode.specs.Plain.{PlainProgram}
 use Rattle.listing_text.specs.Lines.{read_lines, Judges}
@@ -21,7 +21,7 @@ use Rattle.listing_text.specs.Texts.{is_listing}
 use Rattle.listing_text.proofs.ListingReads.{listing_judges}
 use Rattle.word_code.specs.declared.choose.WordSize.{WordSize}
 use Rattle.word_code.specs.Choice.{allows}
-use Rattle.word_code.specs.WordPrint.TextForm.{TextForm}
+use Rattle.fast_text.specs.TextForm.{TextForm}
 use Rattle.fast_main.specs.declared.status.Status.{Status}
 use Rattle.fast_main.specs.declared.status.Status.TheVariants.{ListingSyntax, Success, TooLong, Usage, WideModulus}
 use Rattle.fast_main.specs.FastWords.Asked.{Asked, IsLaneCount, asked, form_in, lanes_in, lanes_named, size_in}

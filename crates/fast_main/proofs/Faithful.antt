@@ -17,20 +17,21 @@ use Rattle.word_code.proofs.InPlace.FreshInPlace.{in_place_fresh}
 use Rattle.word_code.proofs.InPlace.Law.{in_place_is_same}
 use Rattle.word_code.proofs.Numbers.{quickened_fits}
 use Rattle.word_code.proofs.Quickened.{quickened_is_same}
-use Rattle.fast_loops.specs.Interchange.{are_nests, interchanged, interchanged_body}
-use Rattle.fast_loops.proofs.Programs.{interchanged_program}
-use Rattle.fast_loops.specs.JoinedLoops.JoinedLoops.{joined}
-use Rattle.fast_loops.proofs.JoinedLoops.Law.{joined_does_the_same}
-use Rattle.fast_loops.specs.LoopLanes.Lanes.{IsLanes, can_be_laned, laned}
-use Rattle.fast_loops.proofs.LoopLanes.Law.{laned_leaves_the_same}
-use Rattle.fast_loops.specs.FusedLoops.FusedLoops.{fused_phases, large_size, may_be_fused}
-use Rattle.fast_loops.proofs.FusedLoops.Law.{fused_leaves_the_same}
-use Rattle.fast_loops.specs.TwoTables.Laws.{IsInPlaceOf}
-use Rattle.fast_loops.specs.TwoTables.Factors.{Cut, cut_of}
-use Rattle.fast_loops.specs.TwoTables.TwoTables.{factored, factored_at, factored_from, in_factors, is_cut_well}
-use Rattle.fast_loops.specs.TwoTables.TwoTables.{large_table, may_be_split}
-use Rattle.fast_loops.proofs.TwoTables.Law.{factored_leaves_the_same}
-use Rattle.fast_loops.proofs.InPlace.{after, itself}
+use Rattle.nests.specs.Nests.{are_nests}
+use Rattle.interchange.specs.Interchanged.{interchanged, interchanged_body}
+use Rattle.interchange.proofs.Interchanged.{interchanged_program}
+use Rattle.coalesced_loops.specs.Coalesced.{coalesced}
+use Rattle.coalesced_loops.proofs.Law.{coalesced_does_the_same}
+use Rattle.loop_lanes.specs.Lanes.{IsLanes, can_be_laned, laned}
+use Rattle.loop_lanes.proofs.Law.{laned_leaves_the_same}
+use Rattle.fused_loops.specs.Fused.{fused_phases, large_size, may_be_fused}
+use Rattle.fused_loops.proofs.Law.{fused_leaves_the_same}
+use Rattle.nests.specs.InPlace.{IsInPlaceOf}
+use Rattle.two_tables.specs.Factors.{Cut, cut_of}
+use Rattle.two_tables.specs.Factored.{factored, factored_at, factored_from, in_factors, is_cut_well}
+use Rattle.two_tables.specs.Factored.{large_table, may_be_split}
+use Rattle.two_tables.proofs.Law.{factored_leaves_the_same}
+use Rattle.nests.proofs.InPlace.{after, itself}
 use Rattle.word_code.specs.declared.program.WordProgram.{WordProgram}
 use Rattle.word_code.specs.declared.choose.WordSize.{WordSize}
 use Rattle.word_code.specs.Choice.{allows, fast_words, laziness_for}
@@ -90,9 +91,9 @@ laned_is v p lanes =
           record { size = frame.size; modulus = frame.modulus; fits = law.fits; apart = law.apart; same = law.same };
     }
 
-joined_is : (p : PlainProgram) → Keeps (joined p) p
-joined_is p =
-    let same = joined_does_the_same p in
+coalesced_is : (p : PlainProgram) → Keeps (coalesced p) p
+coalesced_is p =
+    let same = coalesced_does_the_same p in
     record {
       line = refl;
       law = λ fits apart. record {
@@ -105,13 +106,13 @@ joined_is p =
       };
     }
 
--- on lanes as its loops are, or with them joined, or as it is
+-- on lanes as its loops are, or with them coalesced, or as it is
 several_is : (v : ℕ) (p : PlainProgram) → IsLanes v → Keeps (on_several v p) p
-several_is v p lanes = of_choice (can_be_laned v p) (can_be_laned v (joined p))
+several_is v p lanes = of_choice (can_be_laned v p) (can_be_laned v (coalesced p))
   where
-    of_choice : (b c : Bool) → Keeps (if b then laned v p else (if c then laned v (joined p) else p)) p
+    of_choice : (b c : Bool) → Keeps (if b then laned v p else (if c then laned v (coalesced p) else p)) p
     of_choice true c = laned_is v p lanes
-    of_choice false true = then_keeps (laned v (joined p)) (joined p) p (laned_is v (joined p) lanes) (joined_is p)
+    of_choice false true = then_keeps (laned v (coalesced p)) (coalesced p) p (laned_is v (coalesced p) lanes) (coalesced_is p)
     of_choice false false = keeps_itself p
 
 on_lanes_is : (lanes : ℕ) (p : PlainProgram) → IsLaneCount lanes → Keeps (on_lanes lanes p) p

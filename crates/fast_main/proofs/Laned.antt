@@ -2,8 +2,8 @@
 use Rattle.std.proofs.Common.{◌≡◌, ◌≢◌, ℕ, ◌*◌, Bool, true, false, map, refl, sym, ap, ◌∙◌}
 use Rattle.std.specs.Prelude.{if◌then◌else◌}
 use Rattle.icode.specs.Plain.{PlainProgram}
-use Rattle.fast_loops.specs.LoopLanes.Lanes.{can_be_laned, laned, laned_body}
-use Rattle.fast_main.specs.Translation.{laned_if_joined, on_several}
+use Rattle.loop_lanes.specs.Lanes.{can_be_laned, laned, laned_body}
+use Rattle.fast_main.specs.Translation.{laned_if_coalesced, on_several}
 
 module _ (v : ℕ) (p : PlainProgram) where
   abbrev pub laned_by : Bool → PlainProgram
@@ -17,10 +17,10 @@ module _ (v : ℕ) (p : PlainProgram) where
       by_test true e other = absurd (other refl)
       by_test false e other = e
 
-  -- its lanes are those of the program with its loops joined, if there are any
-  pub several_joined : (there made : PlainProgram) → there ≡ laned v p → there.lanes ≢ v →
-      made ≡ laned_if_joined v there → made ≡ on_several v p
-  several_joined there made lane other is =
+  -- its lanes are those of the program with its loops coalesced, if there are any
+  pub several_coalesced : (there made : PlainProgram) → there ≡ laned v p → there.lanes ≢ v →
+      made ≡ laned_if_coalesced v there → made ≡ on_several v p
+  several_coalesced there made lane other is =
       let cannot = cannot_from (λ e. other (ap (λ (z : PlainProgram). z.lanes) lane ∙ e)) in
-      is ∙ ap (laned_if_joined v) (lane ∙ ap laned_by cannot)
-      ∙ ap (λ b. if b then laned v p else laned_if_joined v p) (sym cannot)
+      is ∙ ap (laned_if_coalesced v) (lane ∙ ap laned_by cannot)
+      ∙ ap (λ b. if b then laned v p else laned_if_coalesced v p) (sym cannot)

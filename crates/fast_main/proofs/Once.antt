@@ -18,7 +18,7 @@ use Rattle.fast_main.specs.Outcome.{IsOutcome}
 use Rattle.fast_main.specs.Status.{status_of_check}
 use Rattle.fast_main.specs.Translation.{fast_text}
 use Rattle.fast_main.specs.FastWords.Asked.{Asked, asked}
-use Rattle.data_stream.specs.InputRest.Part.{first_part}
+use Rattle.data_stream.specs.Parts.Part.{first_part}
 use Rattle.word_code.specs.declared.choose.WordSize.{WordSize}
 use Rattle.word_code.specs.Choice.{allows}
 

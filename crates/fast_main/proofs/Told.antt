@@ -9,10 +9,10 @@ use Rattle.std.proofs.KnownBytes.{Appends-nil, Consumes-nil, prepend_known-nil}
 use Rattle.fast_main.specs.FastWords.Asked.{Asked, asked}
 use Rattle.fast_main.specs.declared.fast_words.options.Refusal.{Refusal}
 use Rattle.fast_main.specs.declared.fast_words.options.Refusal.TheVariants as words
-use Rattle.data_stream.specs.declared.input_rest.RestFault.{RestFault}
-use Rattle.data_stream.specs.declared.input_rest.RestFault.TheVariants as rest
-use Rattle.data_stream.specs.InputRest.Part.{first_part, IsWholePart, GivesPart}
-use Rattle.data_stream.proofs.InputRest.PartLemmas.{still_ended}
+use Rattle.data_stream.specs.declared.parts.RestFault.{RestFault}
+use Rattle.data_stream.specs.declared.parts.RestFault.TheVariants as rest
+use Rattle.data_stream.specs.Parts.Part.{first_part, IsWholePart, GivesPart}
+use Rattle.data_stream.proofs.TwoParts.PartLemmas.{still_ended}
 use Rattle.io_edge.specs.Feed.{Fed, to_come}
 use Rattle.io_edge.specs.Taken.{AppendsPrefix}
 use Rattle.fast_main.specs.declared.status.Status.{Status}

@@ -20,7 +20,7 @@ use Rattle.fast_main.specs.Status.{listing_limit, status_of_check}
 use Rattle.fast_main.specs.Translation.{fast_text, AreSoundWords}
 use Rattle.fast_main.specs.Words.{bits_of}
 use Rattle.fast_main.specs.FastWords.Asked.{Asked, asked}
-use Rattle.data_stream.specs.InputRest.Part.{first_part, HasPartEnded, IsInPart}
+use Rattle.data_stream.specs.Parts.Part.{first_part, HasPartEnded, IsInPart}
 
 -- the bytes are the listing of no program, and lost in a line
 pub record IsUnread (bytes : List ℕ) (status : Status) : Type 0 where

@@ -4,8 +4,8 @@ use Rattle.code_check.specs.declared.CheckFault.{CheckFault}
 use Rattle.code_check.specs.declared.CheckFault.TheVariants as check
 use Rattle.fast_main.specs.declared.fast_words.options.Refusal.{Refusal}
 use Rattle.fast_main.specs.declared.fast_words.options.Refusal.TheVariants as words
-use Rattle.data_stream.specs.declared.input_rest.RestFault.{RestFault}
-use Rattle.data_stream.specs.declared.input_rest.RestFault.TheVariants as rest
+use Rattle.data_stream.specs.declared.parts.RestFault.{RestFault}
+use Rattle.data_stream.specs.declared.parts.RestFault.TheVariants as rest
 use Rattle.listing_text.specs.declared.listing.ListingFault.{ListingFault}
 use Rattle.listing_text.specs.declared.listing.ListingFault.TheVariants as listing
 use Rattle.io_edge.specs.StatusRows.Rows.{line_of}

@@ -7,11 +7,11 @@ use Rattle.icode.specs.Machine.{IsApart, results}
 use Rattle.icode.specs.Plain.{PlainProgram}
 use Rattle.fast_main.specs.FastWords.Asked.{Asked}
 use Rattle.word_code.specs.InPlace.InPlace.{in_place}
-use Rattle.fast_loops.specs.FusedLoops.FusedLoops.{fused, large_size}
-use Rattle.fast_loops.specs.Interchange.{interchanged}
-use Rattle.fast_loops.specs.JoinedLoops.JoinedLoops.{joined}
-use Rattle.fast_loops.specs.LoopLanes.Lanes.{can_be_laned, laned}
-use Rattle.fast_loops.specs.TwoTables.TwoTables.{factored, large_table}
+use Rattle.fused_loops.specs.Fused.{fused, large_size}
+use Rattle.interchange.specs.Interchanged.{interchanged}
+use Rattle.coalesced_loops.specs.Coalesced.{coalesced}
+use Rattle.loop_lanes.specs.Lanes.{can_be_laned, laned}
+use Rattle.two_tables.specs.Factored.{factored, large_table}
 use Rattle.word_code.specs.Bare.{WordsFit}
 use Rattle.word_code.specs.declared.choose.WordSize.{WordSize}
 use Rattle.word_code.specs.declared.choose.WordSize.TheVariants.{Any, Of32, Of52, Of64}
@@ -19,15 +19,15 @@ use Rattle.word_code.specs.Choice.{fast_words}
 use Rattle.word_code.specs.FreshWords.{word_results_among}
 use Rattle.word_code.specs.WordMachine.{under, word_results}
 use Rattle.word_code.specs.WordProgram.{PlainWordProgram, word_code}
-use Rattle.word_code.specs.WordPrint.WordText.{words_text}
+use Rattle.fast_text.specs.WordText.{words_text}
 
--- the program on several lanes with its loops joined, if it can be laned so
-abbrev pub laned_if_joined : ℕ → PlainProgram → PlainProgram
-laned_if_joined lanes p = let q = joined p in if can_be_laned lanes q then laned lanes q else p
+-- the program on several lanes with its loops coalesced, if it can be laned so
+abbrev pub laned_if_coalesced : ℕ → PlainProgram → PlainProgram
+laned_if_coalesced lanes p = let q = coalesced p in if can_be_laned lanes q then laned lanes q else p
 
--- as its loops are, or else with them joined
+-- as its loops are, or else with them coalesced
 abbrev pub on_several : ℕ → PlainProgram → PlainProgram
-on_several lanes p = if can_be_laned lanes p then laned lanes p else laned_if_joined lanes p
+on_several lanes p = if can_be_laned lanes p then laned lanes p else laned_if_coalesced lanes p
 
 -- the program where loops are interchanged, and where rounds of loops become lanes if several are asked for
 abbrev pub on_lanes : ℕ → PlainProgram → PlainProgram

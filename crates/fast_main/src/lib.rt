@@ -7,7 +7,7 @@ ghost use Rattle.icode.specs.Limits.{IsWithinLimits};
 ghost use Rattle.icode.specs.Plain.{PlainProgram};
 ghost use Rattle.listing_text.specs.Texts.{is_listing};
 ghost use Rattle.code_check.specs.Refusals.{PassesCheck, action_limit};
-ghost use Rattle.data_stream.specs.InputRest.Part.{first_part};
+ghost use Rattle.data_stream.specs.Parts.Part.{first_part};
 ghost use Rattle.word_code.specs.declared.choose.WordSize.{WordSize as SpecWordSize};
 ghost use Rattle.word_code.specs.Choice.{allows};
 ghost use Rattle.fast_main.specs.FastWords.Asked.{Asked, IsLaneCount, asked};

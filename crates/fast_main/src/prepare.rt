@@ -2,16 +2,18 @@
 ghost use Rattle.std.specs.Prelude.{◌≡◌, ◌≢◌, ℕ, IfOk};
 ghost use Rattle.icode.specs.Machine.{IsApart};
 ghost use Rattle.icode.specs.Program.{plain_program, code_of, Fits};
-ghost use Rattle.fast_loops.specs.LoopLanes.Lanes.{IsLanes};
+ghost use Rattle.loop_lanes.specs.Lanes.{IsLanes};
 ghost use Rattle.fast_main.specs.FastWords.Asked.{IsLaneCount};
-ghost use Rattle.fast_main.specs.Translation.{has_cheap_products, laned_if_joined, on_several, on_lanes, in_blocks, prepared};
+ghost use Rattle.fast_main.specs.Translation.{has_cheap_products, laned_if_coalesced, on_several, on_lanes, in_blocks, prepared};
 
-use fast_loops::{
-    LARGE_SIZE, LARGE_TABLE, factor_tables, fuse_loops, interchange, join_loops, lane_loops,
-};
+use coalesced_loops::coalesce_loops;
+use fused_loops::{LARGE_SIZE, fuse_loops};
 use icode::program::Program;
+use interchange::interchange;
+use loop_lanes::lane_loops;
 use memory::NoMemory;
 use std::alloc::Global;
+use two_tables::{LARGE_TABLE, factor_tables};
 use word_code::choose::WordSize;
 
 /// Whether two products cost less than an entry of a large table.
@@ -26,22 +28,22 @@ fn has_cheap_products(size: WordSize, modulus: u64) -> bool
     }
 }
 
-// The program on these lanes with its loops joined, if it can be laned so, and else the program.
-fn lane_if_joined(alloc: Global, lanes: u64, program: Program) -> Result<Program, NoMemory>
+// The program on these lanes with its loops coalesced, if it can be laned so, and else the program.
+fn lane_if_coalesced(alloc: Global, lanes: u64, program: Program) -> Result<Program, NoMemory>
     requires lanes { IsLanes lanes }
     requires others { program.lanes ≢ lanes }
     ensures { IfOk result
-        (λ made. plain_program made ≡ laned_if_joined lanes (plain_program program)) }
+        (λ made. plain_program made ≡ laned_if_coalesced lanes (plain_program program)) }
 {
-    let joined = join_loops(alloc, &program)?;
-    let made = lane_loops(alloc, lanes, joined)?;
+    let coalesced = coalesce_loops(alloc, &program)?;
+    let made = lane_loops(alloc, lanes, coalesced)?;
     if made.lanes == lanes {
         return Ok(made);
     }
     Ok(program)
 }
 
-// The program on these lanes as its loops are, or else with them joined, and else the program.
+// The program on these lanes as its loops are, or else with them coalesced, and else the program.
 fn put_on_several(alloc: Global, lanes: u64, program: Program) -> Result<Program, NoMemory>
     requires { IsLanes lanes }
     ensures { IfOk result
@@ -51,7 +53,7 @@ fn put_on_several(alloc: Global, lanes: u64, program: Program) -> Result<Program
     if there.lanes == lanes {
         return Ok(there);
     }
-    let made = lane_if_joined(alloc, lanes, there)?;
+    let made = lane_if_coalesced(alloc, lanes, there)?;
     Ok(made)
 }
 

@@ -7,8 +7,8 @@ use Rattle.generate.proofs.Existence.{wrong_or_none}
 use Rattle.generate.specs.Planned.{IsRooted}
 use Rattle.matrix_meaning.specs.Parts.{bad_power}
 use Rattle.matrix_meaning.specs.declared.Request.{Request}
-use Rattle.plan_search.specs.declared.convolving.ConvFault.{ConvFault}
-use Rattle.plan_search.specs.declared.convolving.ConvFault.TheVariants.{Root, NotPrincipal, OverBudget}
+use Rattle.generate_faults.specs.declared.conv_fault.ConvFault.{ConvFault}
+use Rattle.generate_faults.specs.declared.conv_fault.ConvFault.TheVariants.{Root, NotPrincipal, OverBudget}
 use Rattle.plan_search.proofs.WholeChosen.{divides_plain, whole_exists, whole_is_least}
 use Rattle.plan_search.proofs.Parts.{next_cases}
 use Rattle.tree_model.specs.Breakdown.{Breakdown}

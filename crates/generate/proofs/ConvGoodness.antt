@@ -305,6 +305,7 @@ module _ (r : Request) (t : Breakdown) (ls : List ℕ) (request : IsConvRequest 
         record {
           header = header-of r (conv_merged r t ds) p performs;
           limits = performs.limits;
+          tables = performs.tables;
           fits = performs.fits;
           phases = length-map _ _ ∙ performs.phases;
           apart = performs.apart;
@@ -313,7 +314,7 @@ module _ (r : Request) (t : Breakdown) (ls : List ℕ) (request : IsConvRequest 
               any-turns (target_of r) (conv_merged r t ds) p performs x turns
               ∙ performs.results x items
               ∙ joined-convolve r t ls request valid h principal x items;
-          again = λ left x turns are vector _.
+          again = λ left x turns are vector.
               let items = items-of r x vector in
               among-leftovers (target_of r) (conv_merged r t ds) p performs left x turns are vector.size
               ∙ any-turns (target_of r) (conv_merged r t ds) p performs x turns

@@ -6,8 +6,8 @@ use Rattle.matrix_meaning.specs.declared.Dimensions.TheVariants.{One}
 use Rattle.matrix_meaning.specs.declared.Request.{Request}
 use Rattle.matrix_meaning.specs.Parts.{bad_power, first_of, rest_of}
 use Rattle.matrix_meaning.specs.Valid.{IsInRange}
-use Rattle.plan_search.specs.declared.generating.GenerateFault.{GenerateFault}
-use Rattle.plan_search.specs.declared.generating.GenerateFault.TheVariants.{Root, NoDivide, OverBudget}
+use Rattle.generate_faults.specs.declared.generate_fault.GenerateFault.{GenerateFault}
+use Rattle.generate_faults.specs.declared.generate_fault.GenerateFault.TheVariants.{Root, NoDivide, OverBudget}
 use Rattle.plan_search.proofs.Decisions.{IsDecidable, decided_divide, decided_fits}
 use Rattle.plan_search.proofs.WholeChosen.{whole_exists, whole_is_least}
 use Rattle.tree_model.specs.Breakdown.{Breakdown}

@@ -1,5 +1,5 @@
 -- The programs of requests and of convolutions are good.
-use Rattle.std.proofs.Common.{◌^◌, ◌<◌, ◌≤◌, arith, length, subst}
+use Rattle.std.proofs.Common.{◌^◌, ◌≤◌, length, subst}
 use Rattle.icode.specs.Limits.{IsWithinLimits}
 use Rattle.icode.specs.Plain.{PlainProgram}
 use Rattle.matrix_meaning.proofs.Requests.{valid_by_powers}
@@ -26,12 +26,11 @@ programs_are_good r t range planned =
     let h = planned.1.tree in
     let can = ready_can_program (target_of r) (tree_merged r t) (trees_are_merged r t valid h).ready in
     let performs = programs_perform (target_of r) (tree_merged r t) can in
-    let few : length (program_for r t).tables < 2 ^ 32 = can.tables in
     let same = programs_are_emissions r t valid h in (
       subst (IsGood r (whole_cost r t)) same (good r t (program_for r t) valid h performs),
       subst (IsLean r t) same (lean r t (program_for r t) valid h performs),
       subst IsWithinLimits same performs.limits,
-      subst (λ (p : PlainProgram). length p.tables ≤ 2 ^ 64) same (omega (arith, few)),
+      subst (λ (p : PlainProgram). length p.tables ≤ 2 ^ 64) same performs.tables,
     )
 
 pub conv_programs_convolve : ConvProgramsConvolve

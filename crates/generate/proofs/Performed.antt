@@ -382,7 +382,7 @@ module _ (r : Request) (t : Breakdown) (p : PlainProgram) (valid : IsValid r) (h
         fits = performs.fits;
         product = λ x turns vector _.
             any-turns (target_of r) (tree_merged r t) p performs x turns ∙ transforms x vector;
-        again = λ left x turns are vector _.
+        again = λ left x turns are vector.
             among-leftovers (target_of r) (tree_merged r t) p performs left x turns are vector.size
             ∙ any-turns (target_of r) (tree_merged r t) p performs x turns ∙ transforms x vector;
         fresh = performs.fresh;

@@ -7,8 +7,8 @@ use Rattle.matrix_meaning.specs.Parts.{bad_power}
 use Rattle.tree_model.specs.Breakdown.{Breakdown}
 use Rattle.tree_model.specs.Chosen.{IsWholeChosen, IsWholeLeast, whole_cost}
 use Rattle.tree_model.specs.Cost.{mul_cost_of}
-use Rattle.plan_search.specs.declared.convolving.ConvFault.{ConvFault}
-use Rattle.plan_search.specs.declared.convolving.ConvFault.TheVariants.{Root, NotPrincipal, OverBudget, NoMemory}
+use Rattle.generate_faults.specs.declared.conv_fault.ConvFault.{ConvFault}
+use Rattle.generate_faults.specs.declared.conv_fault.ConvFault.TheVariants.{Root, NotPrincipal, OverBudget, NoMemory}
 
 -- each power sum of the root but that for 0 is 0
 abbrev pub HasPrincipalRoot : Request → Type 0

@@ -1,5 +1,5 @@
 -- What makes a program one for convolutions with a list.
-use Rattle.std.specs.Prelude.{◌≡◌, ℕ, ◌*◌, ◌<◌, List, length, All}
+use Rattle.std.specs.Prelude.{◌≡◌, ℕ, ◌*◌, ◌^◌, ◌≤◌, List, length, All, ◌<◌}
 use Rattle.matrix_meaning.specs.Convolution.{convolution}
 use Rattle.generate.specs.Good.{HasHeader, IsVector}
 use Rattle.icode.specs.Actions.{PlainFits, plain_code}
@@ -19,13 +19,14 @@ use Rattle.generate.specs.ConvPlanned.{conv_cost}
 pub record IsConvolver (r : Request) (t : Breakdown) (h : List ℕ) (p : PlainProgram) : Type 0 where
   pub header : HasHeader r p
   pub limits : IsWithinLimits p
+  pub tables : length p.tables ≤ 2 ^ 64
   pub fits : PlainFits p
   pub phases : length (plain_code p).lists ≡ 1
   pub apart : (phase : ℕ) → IsApart (plain_code p) phase
   pub product : (x turns : List ℕ) → IsVector r x → All (λ q. q < r.procs) turns →
       results (plain_code p) x turns ≡ convolution r.modulus r.size h x
   pub again : (left : Leftovers) (x turns : List ℕ) → AreLeftovers (plain_code p) left → IsVector r x →
-      All (λ q. q < r.procs) turns → results_among (plain_code p) left x turns ≡ convolution r.modulus r.size h x
+      results_among (plain_code p) left x turns ≡ convolution r.modulus r.size h x
   pub fresh : IsFresh (plain_code p)
   pub operations : weighted r.weight (whole_counts (plain_code p) 0) ≡ conv_cost r t
   pub loads : (whole_counts (plain_code p) 0).loads ≡ 2 * loads_of r t

@@ -31,7 +31,7 @@ pub record IsGood (r : Request) (least : ℕ) (p : PlainProgram) : Type 0 where
   pub product : (x turns : List ℕ) → IsVector r x → All (λ q. q < r.procs) turns →
       results (plain_code p) x turns ≡ asked_of r x
   pub again : (left : Leftovers) (x turns : List ℕ) → AreLeftovers (plain_code p) left → IsVector r x →
-      All (λ q. q < r.procs) turns → results_among (plain_code p) left x turns ≡ asked_of r x
+      results_among (plain_code p) left x turns ≡ asked_of r x
   pub fresh : IsFresh (plain_code p)
   pub apart : (phase : ℕ) → IsApart (plain_code p) phase
   pub operations : (q : ℕ) → q < r.procs → r.procs * weighted r.weight (whole_counts (plain_code p) q) ≡ least

@@ -6,11 +6,12 @@ ghost use Rattle.matrix_meaning.specs.Valid.{IsValid};
 ghost use Rattle.tree_model.specs.Breakdown.{breakdown_of};
 ghost use Rattle.tree_model.specs.Chosen.{IsWholeChosen, whole_cost};
 ghost use Rattle.generate.specs.ConvPlanned.{HasPrincipalRoot, IsConvPlanned, conv_cost};
-ghost use Rattle.plan_search.specs.declared.convolving.ConvFault.TheVariants as fault;
+ghost use Rattle.generate_faults.specs.declared.conv_fault.ConvFault.TheVariants as fault;
 
+use generate_faults::ConvFault;
 use matrix_meaning::{Request, first_bad_power};
 use memory::NoMemory;
-use plan_search::{ConvFault, Plan, PlanError, best};
+use plan_search::{Plan, PlanError, best};
 use ring_mod::Modulus;
 use std::alloc::Global;
 use tree_model::Ctx;

@@ -2,12 +2,13 @@
 ghost use Rattle.std.specs.Prelude.{◌≡◌, ◌≢◌, Ok, Err, IfOk, IfErr, OnOk};
 ghost use Rattle.generate.specs.Planned.{IsAdmitted, IsBarred, IsPlanned, IsRooted};
 ghost use Rattle.matrix_meaning.specs.Valid.{IsInRange, IsValid};
-ghost use Rattle.plan_search.specs.declared.generating.GenerateFault.TheVariants as fault;
+ghost use Rattle.generate_faults.specs.declared.generate_fault.GenerateFault.TheVariants as fault;
 ghost use Rattle.tree_model.specs.Breakdown.{breakdown_of};
 ghost use Rattle.tree_model.specs.Chosen.{whole_cost};
 
+use generate_faults::GenerateFault;
 use matrix_meaning::Request;
-use plan_search::{GenerateFault, Plan, best};
+use plan_search::{Plan, best};
 use std::alloc::Global;
 use tree_model::{Ctx, divides};
 

@@ -4,8 +4,8 @@ use Rattle.std.proofs.Common.{length, Some, None, refl, arith, mod-lt, nat_le}
 use Rattle.std.specs.Prelude.{slice_index}
 use Rattle.std.specs.List.{find}
 use Rattle.std.proofs.lemmas.Bool.{leb-false}
-use Rattle.request_text.specs.Schedule.{Plan, Sequential, Rounds, Named, Seeded}
-use Rattle.request_text.specs.Turns.{from_on, rounds, seeded, next_state, turns_of, named}
+use Rattle.schedules.specs.Schedule.{Plan, Sequential, Rounds, Named, Seeded}
+use Rattle.schedules.specs.Turns.{from_on, rounds, seeded, next_state, turns_of, named}
 
 abbrev AreThere : ℕ → List ℕ → Type 0
 AreThere p xs = (i : ℕ) → i < length xs → slice_index xs i < p

@@ -4,7 +4,7 @@ ghost use Rattle.std.specs.Prelude.{◌≡◌, ℕ, ◌+◌, ◌-◌, ◌*◌, �
 ghost use Rattle.std.specs.List.{find};
 ghost use Rattle.icode.specs.Machine.{acts, next_action, turn, run, answer, completion, finished, start, counts_so_far, padded};
 ghost use Rattle.icode.specs.Program.{code_of, Fits};
-ghost use Rattle.request_text.specs.Turns.{named, turns_of};
+ghost use Rattle.schedules.specs.Turns.{named, turns_of};
 ghost use Rattle.par_machine.specs.Held.{AreFiles, with_memory, with_file};
 ghost use Rattle.par_machine.specs.Skipped.{skipped};
 ghost use Rattle.par_machine.specs.Unfinished.{IsNextTurn, IsUnfinished, left_of};
@@ -17,8 +17,8 @@ use icode::action::{Action, Counts};
 use icode::event::Turned;
 use icode::program::Program;
 use memory::NoMemory;
-use request_text::Schedule;
 use ring_mod::Modulus;
+use schedules::Schedule;
 use std::alloc::Global;
 use std::marker::Model;
 

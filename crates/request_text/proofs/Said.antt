@@ -10,7 +10,7 @@ use Rattle.matrix_meaning.specs.declared.Request.{Request}
 use Rattle.matrix_meaning.specs.Dimensions.{dims_by, product_of}
 use Rattle.request_text.specs.ConvLine.{conv_line}
 use Rattle.request_text.specs.Line.{dimensions, more_sizes, request_line, request_of, rooted, rootless}
-use Rattle.request_text.proofs.ScheduleWord.{few_more}
+use Rattle.schedules.proofs.ScheduleWord.{few_more}
 
 abbrev pub sizes_in : List Dimension → List ℕ
 sizes_in ds = map (λ (d : Dimension). d.size) ds

@@ -5,10 +5,10 @@ use Rattle.matrix_meaning.specs.declared.Dimensions.{Dimensions}
 use Rattle.matrix_meaning.specs.declared.Request.{Request}
 use Rattle.matrix_meaning.specs.Dimensions.{dims_of}
 use Rattle.request_text.specs.declared.fault.RequestFault.{RequestFault}
-use Rattle.request_text.specs.declared.few.Few.{Few}
-use Rattle.request_text.specs.declared.few.Few.TheVariants as few
+use Rattle.request_text.specs.declared.one_to_four.OneToFour.{OneToFour}
+use Rattle.request_text.specs.declared.one_to_four.OneToFour.TheVariants as few
 use Rattle.request_text.specs.declared.spelling.Fields.{Fields}
-use Rattle.request_text.specs.Few.{items, spelt}
+use Rattle.request_text.specs.OneToFour.{items, spelt}
 use Rattle.request_text.specs.Limits.{◌>>◌, sized, limited, judged}
 use Rattle.request_text.specs.Line.{dimensions_of, root_of}
 use Rattle.request_text.proofs.Limits.{sized_is}
@@ -44,7 +44,7 @@ spelt_is f size root ds e is_root are =
     rw (is_size, is_root, are) refl
 
 -- its dimensions are those of the fields
-dims_by_items : (few : Few Dimension) (f : Fields) → f.dimensions ≡ few → dims_of (spelt f) ≡ items few
+dims_by_items : (few : OneToFour Dimension) (f : Fields) → f.dimensions ≡ few → dims_of (spelt f) ≡ items few
 dims_by_items (few.One a) f e = rw e refl
 dims_by_items (few.Two a b) f e = rw e refl
 dims_by_items (few.Three a b c) f e = rw e refl

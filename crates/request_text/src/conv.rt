@@ -5,13 +5,13 @@ ghost use Rattle.matrix_meaning.specs.Convolving.{IsConvRequest};
 ghost use Rattle.request_text.specs.Answer.{ConvAnswers};
 ghost use Rattle.request_text.specs.ConvLine.{conv_line};
 ghost use Rattle.request_text.specs.ConvReading.{conv_at};
-ghost use Rattle.request_text.specs.Few.{spelt};
+ghost use Rattle.request_text.specs.OneToFour.{spelt};
 ghost use Rattle.request_text.specs.Limits.{judged_conv};
 ghost use Rattle.request_text.specs.Reading.{GivesBy, GivesAllBy};
 
 use crate::fault::RequestFault;
-use crate::few::Few;
 use crate::judge::{checked, coprime};
+use crate::one_to_four::OneToFour;
 use crate::spelling::{BUDGET, Fields, UNROLL, WEIGHT, dimension};
 use grammar::{Cursor, Stuck};
 use matrix_meaning::{Kind, Request};
@@ -25,7 +25,7 @@ fn conv_of(cursor: &mut Cursor) -> Result<Fields, Stuck>
     let only = dimension(cursor, b" root ", size)?;
     Ok(Fields {
         kind: Kind::Dft,
-        dimensions: Few::One(only),
+        dimensions: OneToFour::One(only),
         modulus,
         procs: 1,
         line: 1,

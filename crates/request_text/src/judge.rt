@@ -1,12 +1,12 @@
 // The first fault of what a line spells.
 ghost use Rattle.std.specs.Prelude.{◌≡◌, ◌≤◌, Ok, IfOk};
 ghost use Rattle.matrix_meaning.specs.Dimensions.{dims_of};
-ghost use Rattle.request_text.specs.Few.{items, spelt};
+ghost use Rattle.request_text.specs.OneToFour.{items, spelt};
 ghost use Rattle.request_text.specs.Limits.{within, below, sizes_within, products_within, sized, roots_below, shaped, divided, coprime, divisible, limited, judged};
 ghost use Rattle.request_text.specs.Line.{dimensions_of, root_of};
 
 use crate::fault::{Field, RequestFault};
-use crate::few::Few;
+use crate::one_to_four::OneToFour;
 use crate::spelling::Fields;
 use matrix_meaning::{Dimension, Dimensions, Kind, Request};
 use operators::MAX_SIZE;
@@ -35,7 +35,7 @@ fn below(field: Field, value: u64, limit: u64) -> Result<(), RequestFault>
 }
 
 /// Each size is within the limits of one of several.
-fn sizes_within(dimensions: &Few<Dimension>) -> Result<(), RequestFault>
+fn sizes_within(dimensions: &OneToFour<Dimension>) -> Result<(), RequestFault>
     ensures { result ≡ sizes_within (items dimensions.now) }
 {
     let (first, others) = dimensions.parts();
@@ -47,7 +47,7 @@ fn sizes_within(dimensions: &Few<Dimension>) -> Result<(), RequestFault>
 }
 
 /// So is each product of a front of the sizes, times what is before them. The last product.
-fn products_within(before: u64, dimensions: &Few<Dimension>) -> Result<u64, RequestFault>
+fn products_within(before: u64, dimensions: &OneToFour<Dimension>) -> Result<u64, RequestFault>
     requires before { before ≤ 1048576 }
     requires sizes { sizes_within (items dimensions.now) ≡ Ok tt }
     ensures { result ≡ products_within before (items dimensions.now) }
@@ -62,7 +62,7 @@ fn products_within(before: u64, dimensions: &Few<Dimension>) -> Result<u64, Requ
 }
 
 /// The product of the sizes, which are within their limits.
-fn sized(dimensions: &Few<Dimension>) -> Result<u64, RequestFault>
+fn sized(dimensions: &OneToFour<Dimension>) -> Result<u64, RequestFault>
     ensures { result ≡ sized (items dimensions.now) }
 {
     match dimensions.parts() {
@@ -78,7 +78,7 @@ fn sized(dimensions: &Few<Dimension>) -> Result<u64, RequestFault>
 }
 
 /// Each root is below the modulus.
-fn roots_below(modulus: u64, dimensions: &Few<Dimension>) -> Result<(), RequestFault>
+fn roots_below(modulus: u64, dimensions: &OneToFour<Dimension>) -> Result<(), RequestFault>
     ensures { result ≡ roots_below modulus (items dimensions.now) }
 {
     let (first, others) = dimensions.parts();
@@ -144,7 +144,7 @@ fn divisible(kind: Kind, size: u64, modulus: u64) -> Result<(), RequestFault>
 
 /// The first limit that the request of these dimensions misses, its sizes aside.
 #[tactic(auto, unfolding(crate::specs::Limits::limited))]
-fn limited(request: &Request, dimensions: &Few<Dimension>) -> Result<(), RequestFault>
+fn limited(request: &Request, dimensions: &OneToFour<Dimension>) -> Result<(), RequestFault>
     requires size { 1 ≤ request.now.size }
     requires dimensions { dims_of request.now ≡ items dimensions.now }
     ensures { result ≡ limited request.now }
@@ -163,25 +163,25 @@ fn limited(request: &Request, dimensions: &Few<Dimension>) -> Result<(), Request
     Ok(())
 }
 
-fn root_of(dimensions: &Few<Dimension>) -> u64
+fn root_of(dimensions: &OneToFour<Dimension>) -> u64
     ensures { result ≡ root_of (items dimensions.now) }
 {
     match *dimensions {
-        Few::One(only) => only.root,
-        Few::Two(_, _) => 1,
-        Few::Three(_, _, _) => 1,
-        Few::Four(_, _, _, _) => 1,
+        OneToFour::One(only) => only.root,
+        OneToFour::Two(_, _) => 1,
+        OneToFour::Three(_, _, _) => 1,
+        OneToFour::Four(_, _, _, _) => 1,
     }
 }
 
-fn dimensions_of(dimensions: &Few<Dimension>) -> Dimensions
+fn dimensions_of(dimensions: &OneToFour<Dimension>) -> Dimensions
     ensures { result ≡ dimensions_of (items dimensions.now) }
 {
     match *dimensions {
-        Few::One(_) => Dimensions::One,
-        Few::Two(a, b) => Dimensions::Two(a, b),
-        Few::Three(a, b, c) => Dimensions::Three(a, b, c),
-        Few::Four(a, b, c, d) => Dimensions::Four(a, b, c, d),
+        OneToFour::One(_) => Dimensions::One,
+        OneToFour::Two(a, b) => Dimensions::Two(a, b),
+        OneToFour::Three(a, b, c) => Dimensions::Three(a, b, c),
+        OneToFour::Four(a, b, c, d) => Dimensions::Four(a, b, c, d),
     }
 }
 

@@ -1,4 +1,4 @@
-//! The texts of a request: its line, and the word that names a schedule.
+//! The line of a request.
 #![tactic(auto)]
 
 ghost use Rattle.request_text.specs.Answer.{Answers, ConvAnswers};
@@ -11,21 +11,15 @@ ghost use Rattle.request_text.specs.Line.{request_line};
 
 mod conv;
 mod fault;
-mod few;
-mod generator;
 mod judge;
-mod mix;
+mod one_to_four;
 mod request;
-mod schedule;
 mod spelling;
 
 pub use conv::read_conv;
 pub use fault::{Field, RequestFault};
-pub use generator::next_state;
-pub use icode::event::Event;
-pub use mix::{Mix, MixFault, read_mix};
 pub use request::read_request;
-pub use schedule::{Schedule, ScheduleFault, read_schedule};
+pub use schedules::{Schedule, ScheduleFault, read_schedule};
 
 /// A line spells one request at most, and has an answer and no other.
 pub fn lines_have_one_answer()

@@ -2,11 +2,11 @@
 ghost use Rattle.std.specs.Prelude.{◌≡◌, map, codes};
 ghost use Rattle.grammar.specs.Cursor.{Gives};
 ghost use Rattle.grammar.specs.Reading.{one_of_at, named_number_at, numbers_at, whole};
-ghost use Rattle.request_text.specs.Few.{items, spelt};
+ghost use Rattle.request_text.specs.OneToFour.{items, spelt};
 ghost use Rattle.request_text.specs.Line.{above_all, kinds, more_sizes, rootless};
 ghost use Rattle.request_text.specs.Reading.{GivesBy, GivesAllBy, Tries, dimension_at, dimensions_at, request_at, rooted_at};
 
-use crate::few::Few;
+use crate::one_to_four::OneToFour;
 use grammar::{Cursor, Stuck};
 use matrix_meaning::{Dimension, Kind};
 
@@ -23,7 +23,7 @@ pub(crate) const WEIGHT: u64 = 1;
 #[derive(Clone, Copy)]
 pub(crate) struct Fields {
     pub(crate) kind: Kind,
-    pub(crate) dimensions: Few<Dimension>,
+    pub(crate) dimensions: OneToFour<Dimension>,
     pub(crate) modulus: u64,
     pub(crate) procs: u64,
     pub(crate) line: u64,
@@ -63,31 +63,31 @@ fn another(cursor: &mut Cursor) -> Option<u64>
 }
 
 #[tactic(auto, unfolding(grammar::specs::Reading::more_numbers_at))]
-fn up_to_four(cursor: &mut Cursor) -> Result<Few<u64>, Stuck>
+fn up_to_four(cursor: &mut Cursor) -> Result<OneToFour<u64>, Stuck>
     ensures { GivesBy items result cursor.new (numbers_at (codes "x") above_all 3 cursor.old) }
 {
     let a = cursor.number(u64::MAX)?;
     let Some(b) = another(cursor) else {
-        return Ok(Few::One(a));
+        return Ok(OneToFour::One(a));
     };
     let Some(c) = another(cursor) else {
-        return Ok(Few::Two(a, b));
+        return Ok(OneToFour::Two(a, b));
     };
     let Some(d) = another(cursor) else {
-        return Ok(Few::Three(a, b, c));
+        return Ok(OneToFour::Three(a, b, c));
     };
-    Ok(Few::Four(a, b, c, d))
+    Ok(OneToFour::Four(a, b, c, d))
 }
 
 #[tactic(auto, unfolding(grammar::specs::Reading::more_numbers_at))]
-fn only_one(cursor: &mut Cursor) -> Result<Few<u64>, Stuck>
+fn only_one(cursor: &mut Cursor) -> Result<OneToFour<u64>, Stuck>
     ensures { GivesBy items result cursor.new (numbers_at (codes "x") above_all 0 cursor.old) }
 {
     let a = cursor.number(u64::MAX)?;
-    Ok(Few::One(a))
+    Ok(OneToFour::One(a))
 }
 
-fn sizes_of(cursor: &mut Cursor, kind: Kind) -> Result<Few<u64>, Stuck>
+fn sizes_of(cursor: &mut Cursor, kind: Kind) -> Result<OneToFour<u64>, Stuck>
     ensures { GivesBy
         items result cursor.new (numbers_at (codes "x") above_all (more_sizes kind) cursor.old) }
 {
@@ -106,32 +106,32 @@ pub(crate) fn dimension(cursor: &mut Cursor, word: &[u8], size: u64) -> Result<D
     Ok(Dimension { size, root })
 }
 
-fn rooted(cursor: &mut Cursor, sizes: Few<u64>) -> Result<Few<Dimension>, Stuck>
+fn rooted(cursor: &mut Cursor, sizes: OneToFour<u64>) -> Result<OneToFour<Dimension>, Stuck>
     ensures { GivesBy
         items result cursor.new (rooted_at (codes " root ") (items sizes) cursor.old) }
 {
     match sizes {
-        Few::One(size) => {
+        OneToFour::One(size) => {
             let first = dimension(cursor, b" root ", size)?;
-            Ok(Few::One(first))
+            Ok(OneToFour::One(first))
         }
-        Few::Two(size, a) => {
+        OneToFour::Two(size, a) => {
             let first = dimension(cursor, b" root ", size)?;
             let second = dimension(cursor, b"x", a)?;
-            Ok(Few::Two(first, second))
+            Ok(OneToFour::Two(first, second))
         }
-        Few::Three(size, a, b) => {
+        OneToFour::Three(size, a, b) => {
             let first = dimension(cursor, b" root ", size)?;
             let second = dimension(cursor, b"x", a)?;
             let third = dimension(cursor, b"x", b)?;
-            Ok(Few::Three(first, second, third))
+            Ok(OneToFour::Three(first, second, third))
         }
-        Few::Four(size, a, b, c) => {
+        OneToFour::Four(size, a, b, c) => {
             let first = dimension(cursor, b" root ", size)?;
             let second = dimension(cursor, b"x", a)?;
             let third = dimension(cursor, b"x", b)?;
             let fourth = dimension(cursor, b"x", c)?;
-            Ok(Few::Four(first, second, third, fourth))
+            Ok(OneToFour::Four(first, second, third, fourth))
         }
     }
 }
@@ -142,14 +142,18 @@ fn without_root(size: u64) -> Dimension
     Dimension { size, root: 0 }
 }
 
-fn without_roots(sizes: Few<u64>) -> Few<Dimension>
+fn without_roots(sizes: OneToFour<u64>) -> OneToFour<Dimension>
     ensures { items result ≡ map rootless (items sizes) }
 {
     match sizes {
-        Few::One(a) => Few::One(without_root(a)),
-        Few::Two(a, b) => Few::Two(without_root(a), without_root(b)),
-        Few::Three(a, b, c) => Few::Three(without_root(a), without_root(b), without_root(c)),
-        Few::Four(a, b, c, d) => Few::Four(
+        OneToFour::One(a) => OneToFour::One(without_root(a)),
+        OneToFour::Two(a, b) => OneToFour::Two(without_root(a), without_root(b)),
+        OneToFour::Three(a, b, c) => OneToFour::Three(
+            without_root(a),
+            without_root(b),
+            without_root(c),
+        ),
+        OneToFour::Four(a, b, c, d) => OneToFour::Four(
             without_root(a),
             without_root(b),
             without_root(c),
@@ -158,7 +162,11 @@ fn without_roots(sizes: Few<u64>) -> Few<Dimension>
     }
 }
 
-fn dimensions_of(cursor: &mut Cursor, kind: Kind, sizes: Few<u64>) -> Result<Few<Dimension>, Stuck>
+fn dimensions_of(
+    cursor: &mut Cursor,
+    kind: Kind,
+    sizes: OneToFour<u64>,
+) -> Result<OneToFour<Dimension>, Stuck>
     ensures { GivesBy items result cursor.new (dimensions_at kind (items sizes) cursor.old) }
 {
     match kind {

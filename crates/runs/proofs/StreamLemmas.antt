@@ -17,8 +17,8 @@ use Rattle.buffer_machine.specs.Listed.{events_of}
 use Rattle.runs.specs.Standing.{Standing, memory_at}
 use Rattle.runs.specs.Texts.{asked_lines}
 use Rattle.runs.specs.Walks.{ended}
-use Rattle.request_text.specs.Schedule.{Plan}
-use Rattle.request_text.specs.Turns.{turns_of}
+use Rattle.schedules.specs.Schedule.{Plan}
+use Rattle.schedules.specs.Turns.{turns_of}
 use Rattle.io_edge.specs.Feed.{Fed, limit}
 use Rattle.io_edge.specs.Taken.{AppendsPrefix}
 use Rattle.io_edge.proofs.TakenLemmas.{prefix_after}

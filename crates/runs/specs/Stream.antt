@@ -4,8 +4,8 @@ use Rattle.std.specs.List.{list_all, flat_map}
 use Rattle.std.specs.declared.option.Option.{Option}
 use Rattle.std.specs.Io.KnownBytes.{Appends, Consumes}
 use Rattle.io_edge.specs.Told.{IsOver}
-use Rattle.request_text.specs.Schedule.{Plan}
-use Rattle.request_text.specs.Turns.{named}
+use Rattle.schedules.specs.Schedule.{Plan}
+use Rattle.schedules.specs.Turns.{named}
 use Rattle.io_edge.specs.Feed.{Fed, limit}
 use Rattle.io_edge.specs.Taken.{AppendsPrefix}
 use Rattle.data_stream.specs.Data.{tokens, closed_part, is_good}

@@ -10,8 +10,8 @@ use crate::engine::Engine;
 use crate::text::{Line, drain_line, line_of};
 use buffer_machine::{Drained, Event, Events};
 use par_machine::Machine;
-use request_text::Mix;
 use ring_mod::Modulus;
+use schedules::Mix;
 
 // An event, whose answer nobody asks for: no store waits, so a drain finds none.
 fn pass_event(machine: &mut Machine, event: Event)

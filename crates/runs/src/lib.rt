@@ -3,7 +3,6 @@
 #![tactic(auto)]
 
 mod buffered;
-mod calls;
 mod direct;
 mod engine;
 mod first;
@@ -12,10 +11,11 @@ mod queued;
 mod steps;
 mod stream;
 mod text;
+mod unbuffered;
 
 pub use buffered::run_buffered;
-pub use calls::{run_stream, run_vectors, transform};
 pub use engine::Engine;
 pub use first::read_first;
 pub use steps::write_steps;
 pub use stream::StreamFault;
+pub use unbuffered::{run_stream, run_vectors, transform};

@@ -8,16 +8,16 @@ use Rattle.io_edge.specs.Feed.{Fed, most_held, to_come}
 use Rattle.io_edge.specs.Told.{Tells}
 use Rattle.io_edge.proofs.ToldLemmas.{consumes_held, tells_held}
 use Rattle.spiral_words.specs.Asked.{IsAsked}
-use Rattle.spiral_words.specs.SpiralStatus.Status.{IsDefined}
+use Rattle.spiral_words.specs.Statuses.Status.{IsDefined}
 use Rattle.spiral_words.specs.declared.Command.{Command}
-use Rattle.spiral_words.specs.declared.spiral_status.status.Status.{Status}
-use Rattle.spiral_words.specs.declared.spiral_status.status.Status.TheVariants.{NoMemory, ReadFault}
+use Rattle.spiral_words.specs.declared.statuses.status.Status.{Status}
+use Rattle.spiral_words.specs.declared.statuses.status.Status.TheVariants.{NoMemory, ReadFault}
 use Rattle.commands.specs.Equations.Commands.{outcomes_of}
-use Rattle.commands.specs.SpiralInput.Commands.{commanded}
-use Rattle.commands.specs.SpiralInput.Outcomes.{Meets, Outcomes, SourceMeets}
-use Rattle.commands.specs.SpiralInput.Refusals.{IsEarly}
-use Rattle.commands.proofs.SpiralInput.OutcomeLemmas.{meets_nothing, unread_meets, unread_nothing}
-use Rattle.commands.proofs.SpiralInput.Within.{Within, meets_within, told_within}
+use Rattle.commands.specs.Input.Commands.{commanded}
+use Rattle.commands.specs.Input.Outcomes.{Meets, Outcomes, SourceMeets}
+use Rattle.commands.specs.Input.Refusals.{IsEarly}
+use Rattle.commands.proofs.Inputs.OutcomeLemmas.{meets_nothing, unread_meets, unread_nothing}
+use Rattle.commands.proofs.Inputs.Within.{Within, meets_within, told_within}
 use Rattle.spiral_main.specs.Outcome.{Accounts, AccountsFor, CallMeetsFor, call_outcomes}
 
 -- what is right for the command that the words ask for is right for the call

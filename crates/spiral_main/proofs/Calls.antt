@@ -3,10 +3,10 @@ use Rattle.std.proofs.Common.{◌≡◌, ℕ, List, Ok, Err, sym, ap, ◌∙◌}
 use Rattle.spiral_words.specs.Asked.{IsAsked}
 use Rattle.spiral_words.specs.declared.Command.{Command}
 use Rattle.spiral_words.proofs.OneCommand.{asked_once}
-use Rattle.spiral_words.specs.declared.spiral_status.status.Status.{Status}
+use Rattle.spiral_words.specs.declared.statuses.status.Status.{Status}
 use Rattle.commands.specs.Equations.Commands.{outcomes_of}
-use Rattle.commands.specs.SpiralInput.Commands.{commanded}
-use Rattle.commands.proofs.SpiralInput.Stages.{IsDecided, done, ended, answer_for, of_answers}
+use Rattle.commands.specs.Input.Commands.{commanded}
+use Rattle.commands.proofs.Inputs.Stages.{IsDecided, done, ended, answer_for, of_answers}
 use Rattle.spiral_main.specs.Outcome.{IsOutcome}
 use Rattle.spiral_main.proofs.OneAnswer.{command_one}
 

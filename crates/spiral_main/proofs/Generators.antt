@@ -16,10 +16,8 @@ use Rattle.commands.specs.Equations.Run.{run_outcomes}
 use Rattle.commands.specs.Equations.Sample.{sample_outcomes}
 use Rattle.commands.specs.Equations.Trace.{trace_outcomes}
 use Rattle.commands.specs.FormulaCommands.Letters.{program_for}
-use Rattle.commands.specs.SpiralInput.Outcomes.{Outcomes}
-use Rattle.commands.proofs.FormulaCommands.Programs.{formula_programs_are_code}
-use Rattle.commands.proofs.GoodPrograms.{conv_programs_convolve}
-use Rattle.commands.proofs.SpiralInput.Within.{Within}
+use Rattle.commands.specs.Input.Outcomes.{Outcomes}
+use Rattle.commands.proofs.Inputs.Within.{Within}
 use Rattle.spiral_words.specs.declared.Command.{Command}
 use Rattle.spiral_words.specs.declared.Command.TheVariants.{ByRequest, ByFormula, ByListing, ByList}
 use Rattle.spiral_words.specs.declared.Document.TheVariants as document
@@ -29,6 +27,7 @@ use Rattle.spiral_main.specs.Generator.{Generator, OneGenerator, outcomes_by}
 use Rattle.spiral_main.specs.Outcome.{outcomes_for}
 use Rattle.spiral_main.proofs.Accounts.{call_within}
 use Rattle.spiral_main.proofs.Calls.{outcome_of}
+use Rattle.spiral_main.proofs.FormulaTheorem.{right_code, right_convolver}
 use Rattle.spiral_main.proofs.Theorem.{right_program}
 
 the_generator : Generator
@@ -36,9 +35,9 @@ the_generator = record {
   code = emission;
   right = right_program;
   convolver = conv_emission;
-  convolves = conv_programs_convolve;
+  convolves = right_convolver;
   formula = program_for;
-  computes = formula_programs_are_code;
+  computes = right_code;
 }
 
 -- the same is right for both

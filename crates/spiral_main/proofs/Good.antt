@@ -14,14 +14,14 @@ use Rattle.commands.specs.Equations.Works.{all, the_first, by_first, status_by}
 use Rattle.commands.specs.FormulaCommands.Code.{IsCodeOf}
 use Rattle.commands.specs.FormulaCommands.Letters as formulas
 use Rattle.commands.specs.GoodPrograms.{FormulaProgramsAreCode}
-use Rattle.commands.specs.SpiralInput.Orders.{procs_in}
+use Rattle.commands.specs.Input.Orders.{procs_in}
 use Rattle.commands.proofs.FormulaCommands.Shaped.{written_few, written_shaped}
 use Rattle.commands.proofs.GoodPrograms.{conv_programs_convolve, programs_are_good}
 use Rattle.icode.specs.Plain.{PlainProgram}
 use Rattle.listing_text.specs.Listing.{listing_of}
 use Rattle.request_text.proofs.Judged.{conv_in_range}
-use Rattle.request_text.specs.Schedule.{Plan as Turns}
-use Rattle.request_text.specs.Turns.{named}
+use Rattle.schedules.specs.Schedule.{Plan as Turns}
+use Rattle.schedules.specs.Turns.{named}
 use Rattle.runs.specs.Stream.{data_answer}
 use Rattle.spiral_words.specs.Asked.{AsksCode, AsksModulus, AsksSchedule, IsAsked, Means}
 use Rattle.spiral_words.specs.CommandLine.{Names, Options}
@@ -30,8 +30,8 @@ use Rattle.spiral_words.specs.declared.Command.TheVariants as command
 use Rattle.spiral_words.specs.declared.Document.TheVariants as document
 use Rattle.spiral_words.specs.declared.FormulaCommand.TheVariants as formula_command
 use Rattle.spiral_words.specs.declared.RequestCommand.TheVariants as request
-use Rattle.spiral_words.specs.declared.spiral_status.status.Status.{Status}
-use Rattle.spiral_words.specs.declared.spiral_status.status.Status.TheVariants.{Success}
+use Rattle.spiral_words.specs.declared.statuses.status.Status.{Status}
+use Rattle.spiral_words.specs.declared.statuses.status.Status.TheVariants.{Success}
 use Rattle.spl_ast.specs.Formula.{Formula, parts_of}
 use Rattle.spiral_main.specs.Good.{IsLeanFor, Prints, Shows, ShowsConvolver, Traces, trace_of, vectors_read}
 use Rattle.spiral_main.specs.Outcome.{IsOutcome}

@@ -12,3 +12,4 @@ pub mod RightRequests
 pub mod RunAnswer
 pub mod SomeOutcome
 pub mod Theorem
+pub mod FormulaTheorem

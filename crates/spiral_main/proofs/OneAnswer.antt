@@ -13,10 +13,10 @@ use Rattle.plan_cert.proofs.OneVerdict.{one_verdict}
 use Rattle.plan_cert.specs.Table.{IsTableText}
 use Rattle.plan_cert.specs.Verdict.{IsVerdict}
 use Rattle.request_text.proofs.OneAnswer.{one_answer}
-use Rattle.request_text.specs.Schedule.{Plan as Turns}
-use Rattle.request_text.specs.Turns.{named}
+use Rattle.schedules.specs.Schedule.{Plan as Turns}
+use Rattle.schedules.specs.Turns.{named}
 use Rattle.runs.specs.Stream.{lines}
-use Rattle.spiral_words.specs.SpiralStatus.Fault.{status_of_generate, status_of_request}
+use Rattle.spiral_words.specs.Statuses.Fault.{status_of_generate, status_of_request}
 use Rattle.spiral_words.specs.declared.Command.{Command}
 use Rattle.spiral_words.specs.declared.Command.TheVariants as command
 use Rattle.spiral_words.specs.declared.Document.{Document}
@@ -27,13 +27,13 @@ use Rattle.spiral_words.specs.declared.RequestCommand.{RequestCommand}
 use Rattle.spiral_words.specs.declared.RequestCommand.TheVariants as request
 use Rattle.spl_ast.specs.Formula.{Formula, size_of}
 use Rattle.spl_ast.specs.Meaning as meanings
-use Rattle.spiral_words.specs.declared.spiral_status.status.Status.{Status}
+use Rattle.spiral_words.specs.declared.statuses.status.Status.{Status}
 use Rattle.tree_model.specs.Breakdown.{Breakdown}
 use Rattle.commands.proofs.ConvolutionCommands.OneConvolution.{conv_planned_decided, request_clash, same_fault}
 use Rattle.commands.proofs.ConvolutionCommands.OneConvolution.{same_request}
 use Rattle.commands.proofs.FormulaCommands.OneFormula.{formed_decided, written_decided}
 use Rattle.commands.proofs.ListingCommands.OneExecution.{loaded_decided}
-use Rattle.commands.proofs.SpiralInput.Stages.{IsDecided, bind_decided, done, ended, given_decided}
+use Rattle.commands.proofs.Inputs.Stages.{IsDecided, bind_decided, done, ended, given_decided}
 use Rattle.commands.specs.Equations.Apply.{apply_work}
 use Rattle.commands.specs.Equations.Check.{fitting}
 use Rattle.commands.specs.Equations.Commands.{outcomes_by_formula, outcomes_of}
@@ -51,10 +51,10 @@ use Rattle.commands.specs.Equations.Trace.{run_lines, trace_work}
 use Rattle.commands.specs.Equations.Works.{all, a_first, the_first, judging, writing}
 use Rattle.commands.specs.ListingCommands.Listed.{loaded, result_of}
 use Rattle.commands.specs.PlanText.{plan_text}
-use Rattle.commands.specs.SpiralInput.Asking.{spelt}
-use Rattle.commands.specs.SpiralInput.Commands.{admitted, first_stranger}
-use Rattle.commands.specs.SpiralInput.Orders.{procs_in}
-use Rattle.commands.specs.SpiralInput.Stage.{◌>>=◌}
+use Rattle.commands.specs.Input.Asking.{spelt}
+use Rattle.commands.specs.Input.Commands.{admitted, first_stranger}
+use Rattle.commands.specs.Input.Orders.{procs_in}
+use Rattle.commands.specs.Input.Stage.{◌>>=◌}
 use Rattle.spiral_main.proofs.OnePlan.{bar_clash, bar_once, plan_clash, planned_once, refusal_once}
 use Rattle.spiral_main.proofs.OneWork.{HasOne, first_one, front_one, judging_one, mapping_one, writing_one}
 

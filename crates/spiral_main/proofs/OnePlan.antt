@@ -1,8 +1,8 @@
 -- A request has one chosen tree, or one first cause to be refused.
 use Rattle.std.proofs.Common.{◌≡◌, ◌≤◌, Ok, Err, sym, ap, ap₂, ◌∙◌, refl, arith}
 use Rattle.matrix_meaning.specs.declared.Request.{Request}
-use Rattle.plan_search.specs.declared.generating.GenerateFault.{GenerateFault}
-use Rattle.plan_search.specs.declared.generating.GenerateFault.TheVariants as generate
+use Rattle.generate_faults.specs.declared.generate_fault.GenerateFault.{GenerateFault}
+use Rattle.generate_faults.specs.declared.generate_fault.GenerateFault.TheVariants as generate
 use Rattle.plan_search.proofs.OneTree.{whole_once}
 use Rattle.plan_search.proofs.WholeChosen.{whole_divides, whole_least_once}
 use Rattle.commands.specs.Planned.{IsAdmitted, IsBarred, IsPlanned}

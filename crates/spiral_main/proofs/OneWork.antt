@@ -1,13 +1,13 @@
 -- What is right for a command has one status and one text.
 use Rattle.std.proofs.Common.{◌≡◌, ℕ, List, [], ◌∷◌, sym, ap, ◌∙◌, arith, inl, inr}
 use Rattle.plan_cert.specs.declared.verdict.Verdict.{Verdict}
-use Rattle.spiral_words.specs.declared.spiral_status.status.Status.{Status}
+use Rattle.spiral_words.specs.declared.statuses.status.Status.{Status}
 use Rattle.commands.specs.Checked.{status_of_verdict, verdict_text}
 use Rattle.commands.specs.Equations.Front.{Front, Work, by_front, ordered, room_behind, taken_from}
 use Rattle.commands.specs.Equations.Works.{Wants, by_first, judging, mapping, writing}
-use Rattle.commands.specs.SpiralInput.Outcomes.{Outcomes}
-use Rattle.commands.specs.SpiralInput.Stage.{Stage, given}
-use Rattle.commands.proofs.SpiralInput.Stages.{IsDecided, bind_decided, given_decided, of_answers}
+use Rattle.commands.specs.Input.Outcomes.{Outcomes}
+use Rattle.commands.specs.Input.Stage.{Stage, given}
+use Rattle.commands.proofs.Inputs.Stages.{IsDecided, bind_decided, given_decided, of_answers}
 
 pub record HasOne (outcomes : Outcomes) : Type 0 where
   pub status : (bytes : List ℕ) (a b : Status) (s t : List ℕ) → outcomes.answer bytes a s → outcomes.answer bytes b t →

@@ -8,11 +8,11 @@ use Rattle.tree_model.specs.Chosen.{CanDivideWhole}
 use Rattle.plan_cert.proofs.OneVerdict.{one_verdict}
 use Rattle.plan_cert.specs.Verdict.{IsVerdict}
 use Rattle.plan_cert.specs.declared.verdict.Verdict.TheVariants.{Least}
-use Rattle.request_text.specs.Schedule.{Plan as Turns}
-use Rattle.request_text.specs.Turns.{named}
+use Rattle.schedules.specs.Schedule.{Plan as Turns}
+use Rattle.schedules.specs.Turns.{named}
 use Rattle.runs.proofs.StreamLemmas.{right_answer}
 use Rattle.runs.specs.Stream.{data_answer, data_vectors}
-use Rattle.spiral_words.specs.SpiralStatus.Fault.{status_of_stream}
+use Rattle.spiral_words.specs.Statuses.Fault.{status_of_stream}
 use Rattle.spiral_words.specs.declared.Command.TheVariants as command
 use Rattle.spiral_words.specs.declared.Document.{Document}
 use Rattle.spiral_words.specs.declared.Document.TheVariants as document
@@ -21,9 +21,9 @@ use Rattle.spiral_words.specs.declared.FormulaCommand.TheVariants as formula
 use Rattle.spiral_words.specs.declared.RequestCommand.{RequestCommand}
 use Rattle.spiral_words.specs.declared.RequestCommand.TheVariants as request
 use Rattle.spl_ast.specs.Formula.{Formula, size_of}
-use Rattle.spiral_words.specs.declared.spiral_status.status.Status.{Status}
-use Rattle.spiral_words.specs.declared.spiral_status.status.Status.TheVariants.{Success, ReadFault, WriteFault}
-use Rattle.spiral_words.specs.declared.spiral_status.status.Status.TheVariants.{NoMemory}
+use Rattle.spiral_words.specs.declared.statuses.status.Status.{Status}
+use Rattle.spiral_words.specs.declared.statuses.status.Status.TheVariants.{Success, ReadFault, WriteFault}
+use Rattle.spiral_words.specs.declared.statuses.status.Status.TheVariants.{NoMemory}
 use Rattle.commands.specs.Checked.{status_of_verdict}
 use Rattle.commands.specs.Equations.Apply.{apply_work}
 use Rattle.commands.specs.Equations.Check.{fitting}
@@ -40,14 +40,14 @@ use Rattle.commands.specs.Equations.Run.{run_work}
 use Rattle.commands.specs.Equations.Trace.{trace_work}
 use Rattle.commands.specs.Equations.Works.{a_first, judging, status_by, the_first}
 use Rattle.commands.specs.ListingCommands.Listed.{loaded}
-use Rattle.commands.specs.SpiralInput.Asking.{spelt}
-use Rattle.commands.specs.SpiralInput.Commands.{procs_named}
-use Rattle.commands.specs.SpiralInput.Orders.{procs_in}
-use Rattle.commands.specs.SpiralInput.Stage.{Stage, ◌>>=◌}
+use Rattle.commands.specs.Input.Asking.{spelt}
+use Rattle.commands.specs.Input.Commands.{procs_named}
+use Rattle.commands.specs.Input.Orders.{procs_in}
+use Rattle.commands.specs.Input.Stage.{Stage, ◌>>=◌}
 use Rattle.commands.proofs.ConvolutionCommands.OneConvolution.{conv_planned_decided}
 use Rattle.commands.proofs.FormulaCommands.OneFormula.{formed_decided, written_decided}
 use Rattle.commands.proofs.ListingCommands.OneExecution.{loaded_decided}
-use Rattle.commands.proofs.SpiralInput.Stages.{IsDecided, answer_for}
+use Rattle.commands.proofs.Inputs.Stages.{IsDecided, answer_for}
 use Rattle.spiral_main.specs.Outcome.{Accounts, IsOutcome}
 use Rattle.spiral_main.specs.Right.{AreRightData, AreRightVectors, BeginWithList, HasBudgetFor, IsRightCall}
 use Rattle.spiral_main.specs.Right.{IsRightCertificate, IsRightRest, Succeeds, formula_for}

@@ -9,17 +9,17 @@ use Rattle.std.specs.Io.KnownBytes.{Appends}
 use Rattle.data_stream.specs.Data.{tokens, is_good}
 use Rattle.icode.specs.Plain.{PlainProgram}
 use Rattle.matrix_meaning.specs.declared.Request.{Request}
-use Rattle.request_text.specs.Schedule.{Plan as Turns}
-use Rattle.request_text.specs.Turns.{named}
+use Rattle.schedules.specs.Schedule.{Plan as Turns}
+use Rattle.schedules.specs.Turns.{named}
 use Rattle.spl_ast.specs.Formula.{Formula}
 use Rattle.spl_ast.specs.Formula as spl
 use Rattle.spl_ast.specs.Meaning as formulas
 use Rattle.runs.specs.Stream.{lines, vectors_of, bad_after, vectors_seen, data_answer, data_vectors}
 use Rattle.runs.proofs.StreamLemmas.{bad_behind, right_answer}
-use Rattle.spiral_words.specs.SpiralStatus.Fault.{status_of_stream}
-use Rattle.spiral_words.specs.declared.spiral_status.status.Status.{Status}
-use Rattle.spiral_words.specs.declared.spiral_status.status.Status.TheVariants.{Success, ReadFault, WriteFault}
-use Rattle.spiral_words.specs.declared.spiral_status.status.Status.TheVariants.{NoMemory}
+use Rattle.spiral_words.specs.Statuses.Fault.{status_of_stream}
+use Rattle.spiral_words.specs.declared.statuses.status.Status.{Status}
+use Rattle.spiral_words.specs.declared.statuses.status.Status.TheVariants.{Success, ReadFault, WriteFault}
+use Rattle.spiral_words.specs.declared.statuses.status.Status.TheVariants.{NoMemory}
 use Rattle.commands.specs.FormulaCommands.Letters.{program_for}
 use Rattle.listing_text.specs.Listing.{listing_of}
 use Rattle.commands.specs.Equations.Compile.{compile_outcomes}
@@ -27,16 +27,16 @@ use Rattle.commands.specs.Equations.Convolutions.{conv_planned, conv_spelt}
 use Rattle.commands.specs.Equations.Exec.{exec_outcomes, exec_work}
 use Rattle.commands.specs.Equations.Formulas.{formed, written}
 use Rattle.commands.specs.ListingCommands.Listed.{loaded, result_of}
-use Rattle.commands.specs.SpiralInput.Asking.{spelt}
-use Rattle.commands.specs.SpiralInput.Commands.{admitted, first_stranger}
-use Rattle.commands.specs.SpiralInput.Stage.{Stage, ◌>>=◌}
+use Rattle.commands.specs.Input.Asking.{spelt}
+use Rattle.commands.specs.Input.Commands.{admitted, first_stranger}
+use Rattle.commands.specs.Input.Stage.{Stage, ◌>>=◌}
 use Rattle.commands.specs.Equations.Front.{Front, line, ordered, part, room_behind, Work, by_front}
 use Rattle.commands.specs.Equations.Convolve.{IsConvolveText, IsConvolverText, convolve_outcomes, convolve_work}
 use Rattle.commands.specs.Equations.Convolve.{convolver_outcomes, convolver_work}
 use Rattle.commands.specs.Equations.Works.{a_first, all, status_by, the_first, writing, mapping}
 use Rattle.commands.specs.Equations.Orders.{Planned, planned, turned}
 use Rattle.commands.specs.Equations.Apply.{apply_outcomes, apply_work}
-use Rattle.commands.proofs.SpiralInput.FrontLemmas.{front_short}
+use Rattle.commands.proofs.Inputs.FrontLemmas.{front_short}
 use Rattle.spiral_main.specs.Outcome.{IsOutcome, Accounts}
 use Rattle.spiral_main.specs.RightFront.{AreWholeVectors, HasWholeVectors, IsRightConvLine, IsRightLine}
 use Rattle.spiral_main.specs.RightFront.{request_vectors, vectors_behind}

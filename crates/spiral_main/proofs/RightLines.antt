@@ -2,21 +2,21 @@
 use Rattle.std.proofs.Common.{◌≡◌, ◌≤◌, ℕ, Bool, true, false, List, None, Ok, Err, Result, length, nat_le, cond}
 use Rattle.std.proofs.Common.{refl, sym, subst, arith}
 use Rattle.std.proofs.lemmas.Grind.{common_steps}
-use Rattle.commands.proofs.SpiralInput.Stages.{admitted_same, done, done_ended, done_same}
+use Rattle.commands.proofs.Inputs.Stages.{admitted_same, done, done_ended, done_same}
 use Rattle.commands.specs.ConvolutionCommands.ConvPlanned.{IsConvPlanned}
 use Rattle.commands.specs.Equations.Convolutions.{conv_planned, conv_spelt}
 use Rattle.commands.specs.Equations.Formulas.{written}
 use Rattle.commands.specs.Equations.Front.{Front, line, ordered, taken_from}
 use Rattle.commands.specs.Equations.Orders.{Planned, planned, turned}
 use Rattle.commands.specs.Planned.{IsPlanned}
-use Rattle.commands.specs.SpiralInput.Asking.{spelt}
-use Rattle.commands.specs.SpiralInput.Commands.{first_stranger}
-use Rattle.commands.specs.SpiralInput.Stage.{Stage, ◌>>=◌}
+use Rattle.commands.specs.Input.Asking.{spelt}
+use Rattle.commands.specs.Input.Commands.{first_stranger}
+use Rattle.commands.specs.Input.Stage.{Stage, ◌>>=◌}
 use Rattle.matrix_meaning.specs.Valid.{IsInRange}
 use Rattle.matrix_meaning.specs.declared.Request.{Request}
 use Rattle.request_text.proofs.Judged.{passed_in_range}
-use Rattle.spiral_words.specs.declared.spiral_status.status.Status.{Status}
-use Rattle.spiral_words.specs.declared.spiral_status.status.Status.TheVariants.{TooLong}
+use Rattle.spiral_words.specs.declared.statuses.status.Status.{Status}
+use Rattle.spiral_words.specs.declared.statuses.status.Status.TheVariants.{TooLong}
 use Rattle.spl_ast.specs.Formula.{Formula}
 use Rattle.spiral_main.specs.RightFront.{IsRightConvLine, IsRightFormulaLine, IsRightLine}
 

@@ -18,14 +18,14 @@ use Rattle.matrix_meaning.proofs.Roots.{HasItsRoot}
 use Rattle.plan_search.proofs.WholeChosen.{divides_plain, whole_divides, whole_exists, whole_is_least, whole_least_once}
 use Rattle.commands.specs.Planned.{IsPlanned, IsRooted}
 use Rattle.commands.proofs.Documents.{with_tree}
-use Rattle.commands.proofs.SpiralInput.Nested.{joined, no_unit}
-use Rattle.commands.proofs.SpiralInput.Within.{ordered_map}
+use Rattle.commands.proofs.Inputs.Nested.{joined, no_unit}
+use Rattle.commands.proofs.Inputs.Within.{ordered_map}
 use Rattle.commands.specs.Equations.Check.{fitting}
 use Rattle.commands.specs.Equations.Convolutions.{conv_chosen, conv_planned, conv_spelt}
 use Rattle.commands.specs.Equations.Front.{line, ordered, taken_from}
 use Rattle.commands.specs.Equations.Orders.{Planned, chosen, planned, turned}
-use Rattle.commands.specs.SpiralInput.Asking.{spelt}
-use Rattle.commands.specs.SpiralInput.Stage.{given, ◌>>=◌}
+use Rattle.commands.specs.Input.Asking.{spelt}
+use Rattle.commands.specs.Input.Stage.{given, ◌>>=◌}
 use Rattle.tree_model.specs.Breakdown.{Breakdown}
 use Rattle.tree_model.specs.Chosen.{CanDivideWhole, whole_cost}
 use Rattle.spiral_main.specs.Right.{IsWithinBudget, IsWithinConvBudget}

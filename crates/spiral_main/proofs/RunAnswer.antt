@@ -3,12 +3,12 @@ use Rattle.std.proofs.Common.{ℕ, List, Ok, Err, inl, inr}
 use Rattle.commands.specs.Equations.Front.{line, ordered}
 use Rattle.commands.specs.Equations.Orders.{Planned, chosen, planned, spelt_for}
 use Rattle.commands.specs.Equations.Run.{affordable, run_answer, run_outcomes}
-use Rattle.commands.specs.SpiralInput.Orders.{procs_in}
-use Rattle.commands.specs.SpiralInput.Stage.{◌>>=◌}
+use Rattle.commands.specs.Input.Orders.{procs_in}
+use Rattle.commands.specs.Input.Stage.{◌>>=◌}
 use Rattle.matrix_meaning.specs.declared.Request.{Request}
 use Rattle.plan_search.proofs.WholeChosen.{whole_is_least}
 use Rattle.spiral_words.specs.declared.Order.{Order}
-use Rattle.spiral_words.specs.declared.spiral_status.status.Status.{Status}
+use Rattle.spiral_words.specs.declared.statuses.status.Status.{Status}
 use Rattle.tree_model.specs.Chosen.{whole_cost}
 
 chosen_pays : (r : Request) (plan : Planned) → chosen r (Ok plan) → affordable r (Ok plan.request)

@@ -13,17 +13,17 @@ use Rattle.plan_cert.proofs.SomeVerdict.{some_verdict}
 use Rattle.plan_cert.specs.Table.{IsTableText}
 use Rattle.plan_cert.specs.Verdict.{IsVerdict}
 use Rattle.plan_search.proofs.WholeChosen.{whole_divides}
-use Rattle.plan_search.specs.declared.generating.GenerateFault.{GenerateFault}
-use Rattle.plan_search.specs.declared.generating.GenerateFault.TheVariants.{NoMemory, OverBudget}
+use Rattle.generate_faults.specs.declared.generate_fault.GenerateFault.{GenerateFault}
+use Rattle.generate_faults.specs.declared.generate_fault.GenerateFault.TheVariants.{NoMemory, OverBudget}
 use Rattle.request_text.proofs.OneAnswer.{line_answered}
 use Rattle.request_text.specs.Answer.{Answers}
-use Rattle.request_text.specs.Schedule.{Plan as Turns}
-use Rattle.request_text.specs.Turns.{named}
+use Rattle.schedules.specs.Schedule.{Plan as Turns}
+use Rattle.schedules.specs.Turns.{named}
 use Rattle.request_text.specs.declared.RequestFault.{RequestFault}
 use Rattle.runs.specs.Stream.{data_answer, data_vectors, lines}
 use Rattle.spiral_words.proofs.Decided.{asked_or_usage}
 use Rattle.spiral_words.specs.Asked.{IsAsked}
-use Rattle.spiral_words.specs.SpiralStatus.Fault.{status_of_generate, status_of_request}
+use Rattle.spiral_words.specs.Statuses.Fault.{status_of_generate, status_of_request}
 use Rattle.spiral_words.specs.declared.Command.{Command}
 use Rattle.spiral_words.specs.declared.Command.TheVariants as command
 use Rattle.spiral_words.specs.declared.Document.{Document}
@@ -34,14 +34,14 @@ use Rattle.spiral_words.specs.declared.RequestCommand.{RequestCommand}
 use Rattle.spiral_words.specs.declared.RequestCommand.TheVariants as request
 use Rattle.spl_ast.specs.Formula.{size_of}
 use Rattle.spl_ast.specs.Meaning as meanings
-use Rattle.spiral_words.specs.declared.spiral_status.status.Status.{Status}
-use Rattle.spiral_words.specs.declared.spiral_status.status.Status.TheVariants.{Success, TooLong, Usage}
+use Rattle.spiral_words.specs.declared.statuses.status.Status.{Status}
+use Rattle.spiral_words.specs.declared.statuses.status.Status.TheVariants.{Success, TooLong, Usage}
 use Rattle.tree_model.specs.Breakdown.{Breakdown}
 use Rattle.commands.proofs.ConvolutionCommands.Existence.{conv_planned_has}
 use Rattle.commands.proofs.Existence.{plan_exists}
 use Rattle.commands.proofs.FormulaCommands.Written.{formula_written}
 use Rattle.commands.proofs.ListingCommands.Existence.{loaded_has}
-use Rattle.commands.proofs.SpiralInput.Stages.{HasAnswer, both_have, given_has}
+use Rattle.commands.proofs.Inputs.Stages.{HasAnswer, both_have, given_has}
 use Rattle.commands.specs.Checked.{certificate_limit, status_of_verdict, verdict_text}
 use Rattle.commands.specs.Emission.Whole.{conv_emission}
 use Rattle.commands.specs.Equations.Apply.{apply_work}
@@ -67,11 +67,11 @@ use Rattle.commands.specs.ListingCommands.Listed.{loaded, result_of}
 use Rattle.commands.specs.Emission.Whole.{emission}
 use Rattle.commands.specs.PlanText.{plan_text}
 use Rattle.commands.specs.Planned.{IsPlanned}
-use Rattle.commands.specs.SpiralInput.Asking.{spelt}
-use Rattle.commands.specs.SpiralInput.Commands.{admitted, first_stranger}
-use Rattle.commands.specs.SpiralInput.Orders.{procs_in}
-use Rattle.commands.specs.SpiralInput.Outcomes.{Outcomes}
-use Rattle.commands.specs.SpiralInput.Stage.{Stage, ◌>>=◌, given}
+use Rattle.commands.specs.Input.Asking.{spelt}
+use Rattle.commands.specs.Input.Commands.{admitted, first_stranger}
+use Rattle.commands.specs.Input.Orders.{procs_in}
+use Rattle.commands.specs.Input.Outcomes.{Outcomes}
+use Rattle.commands.specs.Input.Stage.{Stage, ◌>>=◌, given}
 use Rattle.spiral_main.specs.Outcome.{IsOutcome}
 use Rattle.spiral_main.proofs.RightLines.{plan_of, spelt_in_range, turned_spelt}
 use Rattle.spiral_main.proofs.RightRequests.{planned_is_right}

@@ -1,5 +1,5 @@
 -- The theorem of the program, from the laws on the commands.
-use Rattle.std.proofs.Common.{◌≡◌, ◌<◌, ◌∙◌, ℕ, List, [], ◌++◌, Ok, ap, codes, inr, refl, sym}
+use Rattle.std.proofs.Common.{◌≡◌, ◌<◌, ◌≤◌, ◌^◌, ◌∙◌, ℕ, List, [], ◌++◌, Ok, ap, codes, inr, length, refl, sym}
 use Rattle.std.proofs.lemmas.List.Elements.{All-nil}
 use Rattle.std.specs.declared.option.Option.{Option}
 use Rattle.commands.specs.Emission.Whole.{emission}
@@ -7,85 +7,101 @@ use Rattle.commands.specs.Equations.Front.{line}
 use Rattle.commands.specs.Equations.Orders.{Planned}
 use Rattle.commands.specs.Good.{IsVector}
 use Rattle.commands.specs.Planned.{IsPlanned}
-use Rattle.commands.specs.SpiralInput.Orders.{procs_in}
+use Rattle.commands.specs.Input.Orders.{procs_in}
 use Rattle.commands.proofs.GoodPrograms.{programs_are_good}
 use Rattle.commands.proofs.ListingCommands.OneExecution.{one_listing}
 use Rattle.icode.proofs.BufferedRuns.{memory_of_buffered}
 use Rattle.icode.proofs.FreshCodes.{fresh_ignores_leftovers, programs_have_factors}
 use Rattle.icode.proofs.Lists.{code_is}
 use Rattle.icode.proofs.Runs.{memory_of_runs}
-use Rattle.icode.specs.Actions.{plain_code}
-use Rattle.icode.specs.Machine.{padded, results, words_at}
+use Rattle.icode.specs.Actions.{PlainFits, plain_code}
+use Rattle.icode.specs.Fresh.{IsFresh}
+use Rattle.icode.specs.Limits.{IsWithinLimits}
+use Rattle.icode.specs.Plain.{PlainProgram}
+use Rattle.icode.specs.Machine.{IsApart, padded, results, words_at}
 use Rattle.listing_text.specs.Listing.{listing_of}
+use Rattle.listing_text.specs.Texts.{is_listing}
 use Rattle.matrix_meaning.specs.Asked.{asked_of}
 use Rattle.matrix_meaning.specs.Valid.{IsInRange}
 use Rattle.matrix_meaning.specs.declared.Request.{Request}
 use Rattle.runs.specs.Stream.{lines}
-use Rattle.spiral_words.specs.SpiralStatus.Status.{IsDefined}
+use Rattle.spiral_words.specs.Statuses.Status.{IsDefined}
 use Rattle.spiral_words.specs.declared.Command.TheVariants as command
 use Rattle.spiral_words.specs.declared.Document.TheVariants as document
 use Rattle.spiral_words.specs.declared.RequestCommand.TheVariants as request
-use Rattle.spiral_words.specs.declared.spiral_status.status.Status.{Status}
-use Rattle.spiral_words.specs.declared.spiral_status.status.Status.TheVariants.{Success}
+use Rattle.spiral_words.specs.declared.statuses.status.Status.{Status}
+use Rattle.spiral_words.specs.declared.statuses.status.Status.TheVariants.{Success}
 use Rattle.spiral_main.specs.Outcome.{Accounts, AccountsFor, IsOutcome}
 use Rattle.spiral_main.specs.RightFront.{IsRightLine, request_vectors}
-use Rattle.spiral_main.specs.Theorem.{IsRightAnswer, IsRightProgram, IsRightRun, ListsRightProgram, TheProgramIsRight, Writes}
+use Rattle.spiral_main.specs.Theorem.{IsRightAnswer, IsRightProgram, IsRightRun, Leaves, Lists, OfWhatWasRead}
+use Rattle.spiral_main.specs.Theorem.{TheProgramIsRight, Writes}
 use Rattle.spiral_main.proofs.Accounts.{told_input, told_left}
 use Rattle.spiral_main.proofs.RightFront.{data_are_right, right_success, text_is_right}
 use Rattle.spiral_main.proofs.RightLines.{spelt_in_range}
 use Rattle.tree_model.specs.Breakdown.{Breakdown}
+
+-- a program that fits, reads nothing that is left over and leaves what is asked where no turn comes first leaves it
+-- whatever is around
+pub leaves_asked : (IsInput : List ℕ → Type 0) (asked : List ℕ → List ℕ) (p : PlainProgram) → IsWithinLimits p
+    → length p.tables ≤ 2 ^ 64 → PlainFits p → IsFresh (plain_code p) → ((phase : ℕ) → IsApart (plain_code p) phase)
+    → ((x : List ℕ) → IsInput x → length x ≡ p.size)
+    → ((x : List ℕ) → IsInput x → results (plain_code p) x [] ≡ asked x) → Leaves IsInput asked p
+leaves_asked IsInput asked p limits few fits fresh apart long first =
+    let code = plain_code p in
+    let in_order = memory_of_runs code (code_is p) apart in
+    let of_memory = λ (memory : List ℕ). words_at code.size memory (padded code) in
+    let product : (x turns : List ℕ) → IsInput x → results code x turns ≡ asked x =
+    λ x turns input. ap of_memory (in_order x turns ∙ sym (in_order x [])) ∙ first x input
+    in
+    record {
+      listed = (limits, few, refl);
+      fits = fits;
+      product = product;
+      again = λ left x turns are input.
+          fresh_ignores_leftovers code left (code_is p) (programs_have_factors p) fresh are x turns (long x input)
+          ∙ product x turns input;
+      fresh = fresh;
+      buffered = λ x events input.
+          ap of_memory (memory_of_buffered code (code_is p) apart x events ∙ sym (in_order x [])) ∙ first x input;
+      apart = apart;
+    }
 
 -- the program of a planned tree is right
 pub right_program : (r : Request) (t : Breakdown) → IsInRange r → IsPlanned r (Ok t) →
     IsRightProgram r t (emission r t)
 right_program r t range planned =
     let program = emission r t in
-    let code = plain_code program in
     let known = programs_are_good r t range planned in
     let good = known.0 in
-    let in_order = memory_of_runs code (code_is program) good.apart in
-    let of_memory = λ (memory : List ℕ). words_at code.size memory (padded code) in
-    let product : (x turns : List ℕ) → IsVector r x → results code x turns ≡ asked_of r x =
-    λ x turns vector.
-    ap of_memory (in_order x turns ∙ sym (in_order x []))
-    ∙ good.product x [] vector (All-nil (λ q. q < r.procs))
-    in
     record {
       header = good.header;
-      listed = (known.2, known.3, refl);
-      fits = good.fits;
-      product = product;
-      again = λ left x turns are vector.
-          fresh_ignores_leftovers code left (code_is program) (programs_have_factors program) good.fresh are x turns
-          (vector.size ∙ sym good.header.size)
-          ∙ product x turns vector;
-      fresh = good.fresh;
-      buffered = λ x events vector.
-          ap of_memory (memory_of_buffered code (code_is program) good.apart x events ∙ sym (in_order x []))
-          ∙ good.product x [] vector (All-nil (λ q. q < r.procs));
-      apart = good.apart;
+      leaves = leaves_asked (IsVector r) (asked_of r) program known.2 known.3 good.fits good.fresh good.apart
+          (λ x vector. vector.size ∙ sym good.header.size)
+          (λ x vector. good.product x [] vector (All-nil (λ q. q < r.procs)));
       operations = good.operations;
       loads = known.1.loads;
       stores = known.1.stores;
       cheapest = planned.1.least;
     }
 
--- and its listing is that of no other
+-- the listing of a program that has P is that of no other
+pub lists : (P : PlainProgram → Type 0) (p : PlainProgram) → P p → is_listing (listing_of p) p → Lists P (listing_of p)
+lists P p has own = record {
+  program = p;
+  right = has;
+  listing = refl;
+  only = λ other is. one_listing (listing_of p) other p is own;
+}
+
 lists_right : (names bytes : List ℕ) (plan : Planned) → IsRightLine names bytes plan
-    → ListsRightProgram plan (listing_of (emission plan.request plan.tree))
+    → Lists (IsRightProgram plan.request plan.tree) (listing_of (emission plan.request plan.tree))
 lists_right names bytes plan right =
-    let program = emission plan.request plan.tree in
     let range = spelt_in_range ((line 256).first bytes) plan.request right.spells in
     let own = right_program plan.request plan.tree range right.planned in
-    record {
-      program = program;
-      right = own;
-      listing = refl;
-      only = λ other is. one_listing (listing_of program) other program is own.listed;
-    }
+    lists (IsRightProgram plan.request plan.tree) (emission plan.request plan.tree) own own.leaves.listed
 
 -- an outcome that is Success, with a text that has P
-writes : (words : List (List ℕ)) (bytes left : List ℕ) (before after : Option (List ℕ)) (status : Status)
+pub writes : (words : List (List ℕ)) (bytes left : List ℕ) (before after : Option (List ℕ)) (status : Status)
     (P : List ℕ → Type 0) (text : List ℕ) → Accounts words bytes left before after status → IsDefined status
     → IsOutcome words bytes Success text → P text → Writes P before after status
 writes words bytes left before after status P text accounts well own right =
@@ -98,7 +114,7 @@ right_answer : (words : List (List ℕ)) (bytes left : List ℕ) (before after :
 right_answer words bytes left before after status accounts well = record {
   code = λ options plan found right.
       let text = listing_of (emission plan.request plan.tree) in
-      writes words bytes left before after status (ListsRightProgram plan) text accounts well
+      writes words bytes left before after status (Lists (IsRightProgram plan.request plan.tree)) text accounts well
       (inr (
         command.ByRequest (request.Writes document.Code),
         (codes "code", options, found, refl),
@@ -121,15 +137,23 @@ program_is_right words bytes left before after status told well =
     let rest = told_input words bytes left before after status told in
     right_answer words bytes rest.0 before after status rest.2 well
 
-pub any_run_is_right : (words : List (List ℕ)) (input input' before after : Option (List ℕ)) (status : Status)
-    → AccountsFor words input input' before after status → IsDefined status
-    → IsRightRun words input input' before after status
-any_run_is_right words input input' before after status told well =
+-- what was read of any input has what the bytes of every told one have
+pub what_was_read : (P : List ℕ → Type 0) (words : List (List ℕ)) (input input' before after : Option (List ℕ))
+    (status : Status) → AccountsFor words input input' before after status
+    → ((bytes left : List ℕ) → Accounts words bytes left before after status → P bytes)
+    → OfWhatWasRead P input input'
+what_was_read P words input input' before after status told has =
     let read : List ℕ = told.used ++ told.held in
     record {
       read = read;
       consumed = told.consumed;
       right = λ left tells.
-          right_answer words (read ++ left) left before after status
-          (told_left words input input' before after status told left tells) well;
+          has (read ++ left) left (told_left words input input' before after status told left tells);
     }
+
+pub any_run_is_right : (words : List (List ℕ)) (input input' before after : Option (List ℕ)) (status : Status)
+    → AccountsFor words input input' before after status → IsDefined status
+    → IsRightRun words input input' before after status
+any_run_is_right words input input' before after status told well =
+    what_was_read (λ bytes. IsRightAnswer words bytes before after status) words input input' before after status told
+    (λ bytes left accounts. right_answer words bytes left before after status accounts well)

@@ -2,7 +2,6 @@
 use Rattle.std.specs.Prelude.{◌≡◌, ◌↔◌, ℕ, ◌^◌, ◌<◌, ◌≤◌, true, false, List, [], Ok}
 use Rattle.std.specs.declared.option.Option.{Option}
 use Rattle.c_print.specs.CText.{c_text_of}
-use Rattle.commands.specs.ConvolutionCommands.Convolver.{IsConvolver}
 use Rattle.commands.specs.ConvolutionCommands.Convolving.{IsConvRequest}
 use Rattle.commands.specs.ConvolutionCommands.ConvPlanned.{IsConvPlanned}
 use Rattle.commands.specs.Equations.Apply.{apply_outcomes}
@@ -19,18 +18,18 @@ use Rattle.commands.specs.Equations.Plan.{plan_outcomes}
 use Rattle.commands.specs.Equations.Run.{run_outcomes}
 use Rattle.commands.specs.Equations.Sample.{sample_outcomes}
 use Rattle.commands.specs.Equations.Works.{all, by_first, mapping, the_first, writing}
-use Rattle.commands.specs.FormulaCommands.Code.{IsCodeOf}
 use Rattle.commands.specs.Planned.{IsPlanned}
-use Rattle.commands.specs.SpiralInput.Orders.{procs_in}
-use Rattle.commands.specs.SpiralInput.Outcomes.{Outcomes}
+use Rattle.commands.specs.Input.Orders.{procs_in}
+use Rattle.commands.specs.Input.Outcomes.{Outcomes}
 use Rattle.icode.specs.Plain.{PlainProgram}
 use Rattle.listing_text.specs.Listing.{listing_of}
 use Rattle.matrix_meaning.specs.Valid.{IsInRange}
 use Rattle.matrix_meaning.specs.declared.Request.{Request}
-use Rattle.request_text.specs.Schedule.{Plan as Turns}
-use Rattle.request_text.specs.Turns.{named}
+use Rattle.schedules.specs.Schedule.{Plan as Turns}
+use Rattle.schedules.specs.Turns.{named}
 use Rattle.spiral_main.specs.Good.{trace_of}
 use Rattle.spiral_main.specs.Outcome.{AccountsFor, CallMeetsFor, IsOutcome, outcomes_for}
+use Rattle.spiral_main.specs.FormulaTheorem.{IsRightCode, IsRightConvolver}
 use Rattle.spiral_main.specs.Theorem.{IsRightProgram}
 use Rattle.spiral_words.specs.Asked.{IsAsked}
 use Rattle.spiral_words.specs.declared.Command.{Command}
@@ -39,7 +38,7 @@ use Rattle.spiral_words.specs.declared.Document.TheVariants as document
 use Rattle.spiral_words.specs.declared.FormulaCommand.TheVariants.{Compile, Apply}
 use Rattle.spiral_words.specs.declared.Order.{Order}
 use Rattle.spiral_words.specs.declared.RequestCommand.TheVariants.{Writes, Runs, Traces, Judges}
-use Rattle.spiral_words.specs.declared.spiral_status.status.Status.{Status}
+use Rattle.spiral_words.specs.declared.statuses.status.Status.{Status}
 use Rattle.spl_ast.specs.Formula.{Formula, parts_of}
 use Rattle.spl_ast.specs.Shape.{IsShaped}
 use Rattle.tree_model.specs.Breakdown.{Breakdown}
@@ -50,10 +49,10 @@ pub record Generator : Type 0 where
   pub right : (r : Request) (t : Breakdown) → IsInRange r → IsPlanned r (Ok t) → IsRightProgram r t (code r t)
   pub convolver : Request → Breakdown → List ℕ → PlainProgram
   pub convolves : (r : Request) (t : Breakdown) (h : List ℕ) → IsConvRequest r → IsConvPlanned r (Ok t) →
-      IsConvolver r t h (convolver r t h)
+      IsRightConvolver r t h (convolver r t h)
   pub formula : ℕ → Formula → PlainProgram
   pub computes : (m : ℕ) (f : Formula) → 2 ≤ m → m < 2 ^ 62 → IsShaped f → parts_of f ≤ 65536 →
-      IsCodeOf m f (formula m f)
+      IsRightCode m f (formula m f)
 
 -- ---- what is right for the commands that write a program
 

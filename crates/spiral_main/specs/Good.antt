@@ -7,7 +7,7 @@ use Rattle.commands.specs.Equations.Works.{by_first}
 use Rattle.commands.specs.Good.{IsGood}
 use Rattle.commands.specs.Lean.{IsLean}
 use Rattle.commands.specs.OrderText.{order_text}
-use Rattle.commands.specs.SpiralInput.Orders.{procs_in}
+use Rattle.commands.specs.Input.Orders.{procs_in}
 use Rattle.icode.specs.Actions.{plain_code}
 use Rattle.icode.specs.Limits.{IsWithinLimits}
 use Rattle.icode.specs.Plain.{PlainProgram}
@@ -18,7 +18,7 @@ use Rattle.spiral_main.specs.RightFront.{IsRightLine}
 use Rattle.spiral_words.specs.Asked.{AsksOrder}
 use Rattle.spiral_words.specs.CommandLine.{Names, Options}
 use Rattle.spiral_words.specs.declared.Order.{Order}
-use Rattle.spiral_words.specs.declared.spiral_status.status.Status.{Status}
+use Rattle.spiral_words.specs.declared.statuses.status.Status.{Status}
 use Rattle.tree_model.specs.Chosen.{whole_cost}
 
 -- the text is what is printed of a program that has P

@@ -3,4 +3,5 @@ pub mod Good
 pub mod RightFront
 pub mod Right
 pub mod Theorem
+pub mod FormulaTheorem
 pub mod Generator

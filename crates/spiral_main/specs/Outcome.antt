@@ -8,12 +8,12 @@ use Rattle.io_edge.specs.Taken.{AppendsPrefix}
 use Rattle.io_edge.specs.Told.{Tells}
 use Rattle.spiral_words.specs.Asked.{IsAsked}
 use Rattle.spiral_words.specs.declared.Command.{Command}
-use Rattle.spiral_words.specs.declared.spiral_status.status.Status.{Status}
-use Rattle.spiral_words.specs.declared.spiral_status.status.Status.TheVariants.{ReadFault}
+use Rattle.spiral_words.specs.declared.statuses.status.Status.{Status}
+use Rattle.spiral_words.specs.declared.statuses.status.Status.TheVariants.{ReadFault}
 use Rattle.commands.specs.Equations.Commands.{outcomes_of}
-use Rattle.commands.specs.SpiralInput.Commands.{commanded}
-use Rattle.commands.specs.SpiralInput.Outcomes.{Outcomes, Meets}
-use Rattle.commands.specs.SpiralInput.Stage.{IsAnswerBy}
+use Rattle.commands.specs.Input.Commands.{commanded}
+use Rattle.commands.specs.Input.Outcomes.{Outcomes, Meets}
+use Rattle.commands.specs.Input.Stage.{IsAnswerBy}
 
 -- the status and the text: the words ask for no command, and nothing is written, or they are right for this command
 abbrev pub IsOutcome : List (List ℕ) → List ℕ → Status → List ℕ → Type 0

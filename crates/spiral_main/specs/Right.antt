@@ -11,8 +11,8 @@ use Rattle.tree_model.specs.Chosen.{CanDivideWhole, IsWholeLeast}
 use Rattle.plan_cert.specs.declared.verdict.Verdict.TheVariants.{Least}
 use Rattle.plan_cert.specs.Verdict.{IsVerdict}
 use Rattle.icode.specs.Plain.{PlainProgram}
-use Rattle.request_text.specs.Schedule.{Plan as Turns}
-use Rattle.request_text.specs.Turns.{named}
+use Rattle.schedules.specs.Schedule.{Plan as Turns}
+use Rattle.schedules.specs.Turns.{named}
 use Rattle.spl_ast.specs.Formula.{Formula, size_of}
 use Rattle.spiral_words.specs.Asked.{IsAsked}
 use Rattle.spiral_words.specs.declared.Command.TheVariants.{ByRequest, ByFormula, ByListing, ByList}
@@ -20,17 +20,17 @@ use Rattle.spiral_words.specs.declared.FormulaCommand.{FormulaCommand}
 use Rattle.spiral_words.specs.declared.FormulaCommand.TheVariants.{Compile, Apply}
 use Rattle.spiral_words.specs.declared.RequestCommand.{RequestCommand}
 use Rattle.spiral_words.specs.declared.RequestCommand.TheVariants.{Writes, Runs, Traces, Judges}
-use Rattle.spiral_words.specs.declared.spiral_status.status.Status.{Status}
-use Rattle.spiral_words.specs.declared.spiral_status.status.Status.TheVariants.{Success}
+use Rattle.spiral_words.specs.declared.statuses.status.Status.{Status}
+use Rattle.spiral_words.specs.declared.statuses.status.Status.TheVariants.{Success}
 use Rattle.commands.specs.Checked.{certificate_limit}
 use Rattle.commands.specs.Equations.Convolutions.{conv_spelt}
 use Rattle.commands.specs.Equations.Formulas.{formed, written}
 use Rattle.commands.specs.Equations.Front.{line, ordered, part, room_behind}
 use Rattle.commands.specs.Equations.Orders.{turned}
 use Rattle.commands.specs.ListingCommands.Listed.{loaded}
-use Rattle.commands.specs.SpiralInput.Asking.{spelt}
-use Rattle.commands.specs.SpiralInput.Commands.{procs_named}
-use Rattle.commands.specs.SpiralInput.Stage.{Stage, ◌>>=◌}
+use Rattle.commands.specs.Input.Asking.{spelt}
+use Rattle.commands.specs.Input.Commands.{procs_named}
+use Rattle.commands.specs.Input.Stage.{Stage, ◌>>=◌}
 use Rattle.runs.specs.Stream.{data_vectors}
 use Rattle.spiral_main.specs.Outcome.{IsOutcome}
 use Rattle.spiral_main.specs.RightFront.{AreWholeVectors, HasWholeVectors}

@@ -2,8 +2,8 @@
 use Rattle.std.specs.Prelude.{◌≤◌, ◌≡◌, ◌%◌, ℕ, true, List, length, Ok, None}
 use Rattle.std.specs.List.{list_all}
 use Rattle.data_stream.specs.Data.{tokens, is_good}
-use Rattle.commands.specs.SpiralInput.Asking.{spelt}
-use Rattle.commands.specs.SpiralInput.Commands.{first_stranger}
+use Rattle.commands.specs.Input.Asking.{spelt}
+use Rattle.commands.specs.Input.Commands.{first_stranger}
 use Rattle.runs.specs.Stream.{vectors_of}
 use Rattle.commands.specs.ConvolutionCommands.ConvPlanned.{IsConvPlanned}
 use Rattle.commands.specs.Equations.Convolutions.{conv_spelt}

@@ -27,7 +27,7 @@ use Rattle.std.specs.Io.KnownBytes.{Appends, Consumes}
 use Rattle.commands.specs.Equations.Front.{line}
 use Rattle.commands.specs.Equations.Orders.{Planned}
 use Rattle.commands.specs.Good.{HasHeader, IsVector}
-use Rattle.commands.specs.SpiralInput.Orders.{procs_in}
+use Rattle.commands.specs.Input.Orders.{procs_in}
 use Rattle.icode.specs.Actions.{PlainFits, plain_code}
 use Rattle.icode.specs.Buffers.{buffered_results}
 use Rattle.icode.specs.Fresh.{IsFresh}
@@ -46,10 +46,10 @@ use Rattle.spiral_main.specs.Outcome.{AccountsFor}
 use Rattle.spiral_main.specs.RightFront.{HasWholeVectors, IsRightLine, request_vectors}
 use Rattle.spiral_words.specs.Asked.{AsksOrder}
 use Rattle.spiral_words.specs.CommandLine.{Names, Options}
-use Rattle.spiral_words.specs.SpiralStatus.Status.{IsDefined}
+use Rattle.spiral_words.specs.Statuses.Status.{IsDefined}
 use Rattle.spiral_words.specs.declared.Order.{Order}
-use Rattle.spiral_words.specs.declared.spiral_status.status.Status.{Status}
-use Rattle.spiral_words.specs.declared.spiral_status.status.Status.TheVariants.{Success}
+use Rattle.spiral_words.specs.declared.statuses.status.Status.{Status}
+use Rattle.spiral_words.specs.declared.statuses.status.Status.TheVariants.{Success}
 use Rattle.tree_model.specs.Breakdown.{Breakdown}
 use Rattle.tree_model.specs.Chosen.{IsWholeTree, whole_cost}
 use Rattle.tree_model.specs.WholePasses.{whole_loads, whole_stores}
@@ -58,26 +58,30 @@ use Rattle.tree_model.specs.WholePasses.{whole_loads, whole_stores}
 abbrev pub AreEqualShares : Request → PlainProgram → (Counts → ℕ) → ℕ → Type 0
 AreEqualShares r p count whole = (q : ℕ) → q < r.procs → r.procs * count (whole_counts (plain_code p) q) ≡ whole
 
--- p is right for the request r, and does no more than its tree t
-pub record IsRightProgram (r : Request) (t : Breakdown) (p : PlainProgram) : Type 0 where
-  -- it is for the size, modulus, processors, cache lines and lanes of the request
-  pub header : HasHeader r p
+-- Of each input p leaves what is asked of it, whatever is around
+pub record Leaves (IsInput : List ℕ → Type 0) (asked : List ℕ → List ℕ) (p : PlainProgram) : Type 0 where
   -- it has a listing that can be read, since it stands within the limits of listings
   pub listed : is_listing (listing_of p) p
   -- each place, register and factor that it names is there, and no number on the way to a place is too great
   pub fits : PlainFits p
-  -- it leaves the matrix times x, whatever turns the processors take
-  pub product : (x turns : List ℕ) → IsVector r x → results (plain_code p) x turns ≡ asked_of r x
+  -- it leaves what is asked of x, whatever turns the processors take
+  pub product : (x turns : List ℕ) → IsInput x → results (plain_code p) x turns ≡ asked x
   -- also among anything that earlier runs have left: in Y, A, B, the rest of X, and the registers where each phase begins
-  pub again : (left : Leftovers) (x turns : List ℕ) → AreLeftovers (plain_code p) left → IsVector r x →
-      results_among (plain_code p) left x turns ≡ asked_of r x
+  pub again : (left : Leftovers) (x turns : List ℕ) → AreLeftovers (plain_code p) left → IsInput x →
+      results_among (plain_code p) left x turns ≡ asked x
   -- it reads nothing of that, and stores each word of Y
   pub fresh : IsFresh (plain_code p)
   -- also where stores wait in buffers, whatever turns and drains there are
-  pub buffered : (x : List ℕ) (events : List Event) → IsVector r x →
-      buffered_results (plain_code p) x events ≡ asked_of r x
+  pub buffered : (x : List ℕ) (events : List Event) → IsInput x → buffered_results (plain_code p) x events ≡ asked x
   -- in no phase does a processor touch a cache line that another one writes
   pub apart : (phase : ℕ) → IsApart (plain_code p) phase
+
+-- p is right for the request r, and does no more than its tree t
+pub record IsRightProgram (r : Request) (t : Breakdown) (p : PlainProgram) : Type 0 where
+  -- it is for the size, modulus, processors, cache lines and lanes of the request
+  pub header : HasHeader r p
+  -- it leaves the matrix times the vector
+  pub leaves : Leaves (IsVector r) (asked_of r) p
   -- operations, where a multiplication counts as the request's weight, loads and stores are those of the tree
   pub operations : AreEqualShares r p (weighted r.weight) (whole_cost r t)
   pub loads : AreEqualShares r p (λ c. c.loads) (whole_loads r t)
@@ -85,10 +89,10 @@ pub record IsRightProgram (r : Request) (t : Breakdown) (p : PlainProgram) : Typ
   -- and no tree of the request costs less
   pub cheapest : (u : Breakdown) → IsWholeTree r u → whole_cost r t ≤ whole_cost r u
 
--- the text is the listing of a right program, and of no other
-pub record ListsRightProgram (plan : Planned) (text : List ℕ) : Type 0 where
+-- the text is the listing of a program that has P, and of no other
+pub record Lists (P : PlainProgram → Type 0) (text : List ℕ) : Type 0 where
   pub program : PlainProgram
-  pub right : IsRightProgram plan.request plan.tree program
+  pub right : P program
   pub listing : text ≡ listing_of program
   pub only : (other : PlainProgram) → is_listing text other → other ≡ program
 
@@ -104,7 +108,7 @@ pub record IsRightAnswer (words : List (List ℕ)) (bytes : List ℕ) (before af
     (status : Status) : Type 0 where
   -- `spiral code`: the listing of a right program
   pub code : (options : Options) (plan : Planned) → Names words (codes "code") options → IsRightLine [] bytes plan →
-      Writes (ListsRightProgram plan) before after status
+      Writes (Lists (IsRightProgram plan.request plan.tree)) before after status
   -- `spiral run`: a line for each vector, of the matrix times it
   pub run : (options : Options) (order : Order) (plan : Planned) → Names words (codes "run") options →
       AsksOrder options order → IsRightLine (procs_in order) bytes plan →
@@ -119,10 +123,14 @@ TheProgramIsRight =
     AccountsFor words (Some bytes) left before after status → IsDefined status →
     IsRightAnswer words bytes before after status
 
--- the same of any input: it gave these bytes, and with all that it may have left the answer is right. One that does not
--- tell its bytes may have any left
-pub record IsRightRun (words : List (List ℕ)) (input input' before after : Option (List ℕ))
-    (status : Status) : Type 0 where
+-- any input gave these bytes, and with all that it may have left they have P. One that does not tell its bytes may have
+-- any left
+pub record OfWhatWasRead (P : List ℕ → Type 0) (input input' : Option (List ℕ)) : Type 0 where
   pub read : List ℕ
   pub consumed : Consumes input input' read
-  pub right : (left : List ℕ) → Tells input' left → IsRightAnswer words (read ++ left) before after status
+  pub right : (left : List ℕ) → Tells input' left → P (read ++ left)
+
+-- what is right for a call of any input
+abbrev pub IsRightRun : List (List ℕ) → (input input' before after : Option (List ℕ)) → Status → Type 0
+IsRightRun words input input' before after status =
+    OfWhatWasRead (λ bytes. IsRightAnswer words bytes before after status) input input'

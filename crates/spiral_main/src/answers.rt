@@ -1,7 +1,7 @@
 // What each command answers: an outcome of words that name it is an answer of its equation. A law cites no other
 // command's definitions.
 ghost use Rattle.std.specs.Prelude.{ℕ, true, false, List, Ok, ◌↔◌, codes};
-ghost use Rattle.request_text.specs.Schedule.{Plan as SpecSchedule};
+ghost use Rattle.schedules.specs.Schedule.{Plan as SpecSchedule};
 ghost use Rattle.commands.specs.Equations.Apply.{apply_answer};
 ghost use Rattle.commands.specs.Equations.C.{c_answer};
 ghost use Rattle.commands.specs.Equations.Code.{code_answer};
@@ -20,7 +20,7 @@ ghost use Rattle.commands.specs.Equations.Front.{line, ordered};
 ghost use Rattle.commands.specs.Equations.Orders.{Planned, planned};
 ghost use Rattle.commands.specs.FormulaCommands.Code.{IsCodeOf};
 ghost use Rattle.listing_text.specs.Listing.{listing_of};
-ghost use Rattle.request_text.specs.Turns.{named};
+ghost use Rattle.schedules.specs.Turns.{named};
 ghost use Rattle.spiral_main.specs.Generator.{OneGenerator};
 ghost use Rattle.spiral_main.specs.Good.{IsGoodFor, IsLeanFor, Prints, Shows, ShowsConvolver, Traces, vectors_read};
 ghost use Rattle.spiral_main.specs.RightFront.{IsRightConvLine, IsRightFormulaLine, IsRightLine};
@@ -29,7 +29,7 @@ ghost use Rattle.spiral_main.specs.Outcome.{IsOutcome};
 ghost use Rattle.commands.specs.Equations.Plan.{plan_answer};
 ghost use Rattle.commands.specs.Equations.Run.{run_answer};
 ghost use Rattle.commands.specs.Equations.Sample.{sample_answer};
-ghost use Rattle.spiral_words.specs.declared.spiral_status.status.Status.{Status as SpecStatus};
+ghost use Rattle.spiral_words.specs.declared.statuses.status.Status.{Status as SpecStatus};
 ghost use Rattle.spiral_words.specs.Asked.{AsksCode, AsksModulus, AsksOrder, AsksSchedule, AsksSeed, IsAsked};
 ghost use Rattle.spiral_words.specs.CommandLine.{Names, Options};
 ghost use Rattle.spiral_words.specs.declared.Command.{Command as SpecCommand};

@@ -6,10 +6,11 @@ ghost use Rattle.std.specs.declared.option.Option.{Option};
 ghost use Rattle.commands.specs.Planned.{IsPlanned};
 ghost use Rattle.matrix_meaning.specs.Valid.{IsInRange, IsValid};
 ghost use Rattle.matrix_meaning.specs.declared.Request.{Request as SpecRequest};
-ghost use Rattle.spiral_words.specs.declared.spiral_status.status.Status.{Status as SpecStatus};
-ghost use Rattle.spiral_words.specs.declared.spiral_status.status.Status.TheVariants.{ReadFault, WriteFault, NoMemory};
+ghost use Rattle.spiral_words.specs.declared.statuses.status.Status.{Status as SpecStatus};
+ghost use Rattle.spiral_words.specs.declared.statuses.status.Status.TheVariants.{ReadFault, WriteFault, NoMemory};
 ghost use Rattle.spiral_main.specs.Outcome.{Accounts, AccountsFor, IsOutcome};
 ghost use Rattle.spiral_main.specs.Right.{IsRightCall, IsWithinBudget, Succeeds};
+ghost use Rattle.spiral_main.specs.FormulaTheorem.{FormulasAreRight};
 ghost use Rattle.spiral_main.specs.Theorem.{TheProgramIsRight};
 ghost use Rattle.tree_model.specs.Breakdown.{Breakdown};
 ghost use Rattle.tree_model.specs.Chosen.{CanDivideWhole};
@@ -27,6 +28,13 @@ pub use spiral_words::{Command, Status};
 /// shares; and `run` writes the matrix times each vector.
 pub fn the_program_is_right()
     ensures { TheProgramIsRight }
+{}
+
+/// The theorem of the program for formulas and convolutions: `compile` and `convolve --code` print the listing of one
+/// program, which leaves what is asked for under every order of turns, also with store buffers, in the operations that
+/// are counted; `apply` and `convolve` write it for each vector.
+pub fn formulas_are_right()
+    ensures { FormulasAreRight }
 {}
 
 /// The words and the bytes of a call determine its status.

@@ -3,12 +3,13 @@ ghost use Rattle.std.specs.Prelude.{◌≡◌, [], map, string_bytes};
 ghost use Rattle.std.specs.Io.KnownBytes.{Appends};
 ghost use Rattle.io_edge.specs.Told.{IsOver};
 ghost use Rattle.io_edge.specs.Faults.{Reports};
-ghost use Rattle.commands.specs.SpiralInput.Commands.{AskForRest, AskForCommand, AreJudged};
+ghost use Rattle.commands.specs.Input.Commands.{AskForRest, AskForCommand, AreJudged};
 ghost use Rattle.spiral_main.specs.Outcome.{AccountsFor, Notes};
+ghost use Rattle.spiral_main.specs.FormulaTheorem.{IsRightFormulaRun};
 ghost use Rattle.spiral_main.specs.Theorem.{IsRightRun};
-ghost use Rattle.spiral_words.specs.SpiralStatus.Status.{IsDefined};
-ghost use Rattle.commands.specs.SpiralInput.Stage.{status_of};
-ghost use Rattle.spiral_words.specs.SpiralStatus.Status.{note_line};
+ghost use Rattle.spiral_words.specs.Statuses.Status.{IsDefined};
+ghost use Rattle.commands.specs.Input.Stage.{status_of};
+ghost use Rattle.spiral_words.specs.Statuses.Status.{note_line};
 
 use crate::Status;
 use commands::{asked, by_formula, convolve, exec, perform};
@@ -92,6 +93,9 @@ pub fn spiral_run<I: Source, O: Sink, E: Sink>(
 ) -> Status
     // The theorem: what `code` prints is right, and what `run` writes.
     ensures right { IsDefined result → IsRightRun (map string_bytes words.now.items)
+        (I.left input.old) (I.left input.new) (O.taken output.old) (O.taken output.new) result }
+    // And for formulas and convolutions: what `compile` and `convolve --code` print, and what `apply` and `convolve` write.
+    ensures formulas { IsDefined result → IsRightFormulaRun (map string_bytes words.now.items)
         (I.left input.old) (I.left input.new) (O.taken output.old) (O.taken output.new) result }
     // The bytes that the input gave, with all that it may have left, and the words account for the status and for what
     // the output took. Where a read failed, that is the whole text of what the input gave.

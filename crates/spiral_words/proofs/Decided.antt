@@ -6,10 +6,10 @@ use Rattle.std.specs.List.{Any}
 use Rattle.clap.specs.Words.{Row, Text, fault_of}
 use Rattle.clap.specs.Walk.{is_empty}
 use Rattle.grammar.specs.Grammar.{Judges, number}
-use Rattle.request_text.specs.Mix.{mix_word}
-use Rattle.request_text.specs.Schedule.{schedule_word}
-use Rattle.request_text.proofs.MixWord.{mix_judges}
-use Rattle.request_text.proofs.ScheduleWord.{word_judges}
+use Rattle.schedules.specs.Mix.{mix_word}
+use Rattle.schedules.specs.Schedule.{schedule_word}
+use Rattle.schedules.proofs.MixWord.{mix_judges}
+use Rattle.schedules.proofs.ScheduleWord.{word_judges}
 use Rattle.spiral_words.proofs.NumberWord.{seed_judges, small_judges, modulus_read, modulus_small}
 use Rattle.spiral_words.specs.declared.app.OptionName.{OptionName}
 use Rattle.spiral_words.specs.declared.app.OptionName.TheVariants as option

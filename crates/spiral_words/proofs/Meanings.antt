@@ -4,7 +4,7 @@ use Rattle.std.specs.Str.{bytes_eq}
 use Rattle.std.proofs.lemmas.Bool.Decides.{not_from_Decides}
 use Rattle.std.proofs.lemmas.Slice.Eq.{bytes_eq-Decides}
 use Rattle.clap.specs.Words.{Row, Text}
-use Rattle.request_text.specs.Schedule.{Plan, schedule_word}
+use Rattle.schedules.specs.Schedule.{Plan, schedule_word}
 use Rattle.spiral_words.specs.declared.app.OptionName.TheVariants as option
 use Rattle.spiral_words.specs.declared.command.Command.{Command}
 use Rattle.spiral_words.specs.declared.command.Command.TheVariants.{ByRequest, ByFormula, ByListing, ByList}

@@ -4,10 +4,10 @@ use Rattle.std.proofs.Common.{ap₂, subst, ◌∙◌, codes, arith, inl, inr}
 use Rattle.clap.specs.Words.{Row, Text}
 use Rattle.grammar.specs.Grammar.{Judges, number, one_of}
 use Rattle.icode.specs.declared.event.Event.{Event}
-use Rattle.request_text.specs.Mix.{mix_word}
-use Rattle.request_text.specs.Schedule.{Plan, schedule_word}
-use Rattle.request_text.proofs.MixWord.{mix_judges}
-use Rattle.request_text.proofs.ScheduleWord.{word_judges}
+use Rattle.schedules.specs.Mix.{mix_word}
+use Rattle.schedules.specs.Schedule.{Plan, schedule_word}
+use Rattle.schedules.proofs.MixWord.{mix_judges}
+use Rattle.schedules.proofs.ScheduleWord.{word_judges}
 use Rattle.request_text.proofs.OneAnswer.{judged_once}
 use Rattle.spiral_words.proofs.NumberWord.{seed_judges, small_judges}
 use Rattle.spiral_words.specs.declared.app.OptionName.TheVariants as option

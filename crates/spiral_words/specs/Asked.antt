@@ -2,8 +2,8 @@
 use Rattle.std.specs.Prelude.{◌≡◌, ℕ, ◌≤◌, ◌^◌, List, Bool, true, false, codes}
 use Rattle.grammar.specs.Grammar.{number}
 use Rattle.clap.specs.Words.{Text}
-use Rattle.request_text.specs.Mix.{mix_word}
-use Rattle.request_text.specs.Schedule.{Plan as Turns, schedule_word}
+use Rattle.schedules.specs.Mix.{mix_word}
+use Rattle.schedules.specs.Schedule.{Plan as Turns, schedule_word}
 use Rattle.spiral_words.specs.declared.command.Command.{Command}
 use Rattle.spiral_words.specs.declared.command.Command.TheVariants.{ByRequest, ByFormula, ByListing, ByList}
 use Rattle.spiral_words.specs.declared.command.RequestCommand.TheVariants.{Writes, Runs, Traces, Judges}

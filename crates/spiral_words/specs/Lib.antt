@@ -1,4 +1,4 @@
-pub mod SpiralStatus
+pub mod Statuses
 pub mod CommandLine
 pub mod Asked
 pub mod Refused

@@ -4,8 +4,8 @@ use Rattle.std.specs.List.{Any}
 use Rattle.clap.specs.Words.{Row, Text, fault_of}
 use Rattle.clap.specs.Walk.{is_empty}
 use Rattle.icode.specs.declared.event.Event.{Event}
-use Rattle.request_text.specs.Mix.{mix_word}
-use Rattle.request_text.specs.Schedule.{Plan, schedule_word}
+use Rattle.schedules.specs.Mix.{mix_word}
+use Rattle.schedules.specs.Schedule.{Plan, schedule_word}
 use Rattle.spiral_words.specs.declared.command.Command.{Command}
 use Rattle.spiral_words.specs.declared.app.OptionName.{OptionName}
 use Rattle.spiral_words.specs.declared.app.OptionName.TheVariants.{Schedule, Seed, Modulus, Buffers}

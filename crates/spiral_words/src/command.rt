@@ -2,8 +2,8 @@
 ghost use Rattle.std.specs.Prelude.{◌≡◌};
 ghost use Rattle.spiral_words.specs.declared.command.Refusal.TheVariants.{NoMemory};
 
-use request_text::{Mix, Schedule};
 use ring_mod::Modulus;
+use schedules::{Mix, Schedule};
 use std::alloc::AllocError;
 use thiserror::Error;
 

@@ -14,11 +14,11 @@ mod line;
 mod number;
 mod order;
 mod reading;
-mod spiral_status;
+mod statuses;
 
 pub use command::{Command, Document, FormulaCommand, Order, Refusal, RequestCommand};
 pub use reading::command_of;
-pub use spiral_status::{CERTIFICATE_LIMIT, LINE_LIMIT, Status, write_note};
+pub use statuses::{CERTIFICATE_LIMIT, LINE_LIMIT, Status, write_note};
 
 /// Words ask for nothing where clap refuses them, or an option's text is outside its grammar, and there alone.
 pub fn usage_is_refusal()

@@ -1,12 +1,12 @@
 // Orders and schedules, as words spell them.
 ghost use Rattle.std.specs.Prelude.{◌≡◌, Err, IfOk, true};
-ghost use Rattle.request_text.specs.Mix.{mix_word};
-ghost use Rattle.request_text.specs.Schedule.{schedule_word};
+ghost use Rattle.schedules.specs.Mix.{mix_word};
+ghost use Rattle.schedules.specs.Schedule.{schedule_word};
 ghost use Rattle.spiral_words.specs.Asked.{SpellsOrder};
 ghost use Rattle.spiral_words.specs.Refused.{IsNoMix, IsNoOrder, IsNoSchedule};
 
 use crate::command::{Order, Refusal};
-use request_text::{Mix, MixFault, Schedule, ScheduleFault, read_mix, read_schedule};
+use schedules::{Mix, MixFault, Schedule, ScheduleFault, read_mix, read_schedule};
 use std::alloc::Global;
 
 /// The order that a word is: a schedule, or with buffers turns and drains too.

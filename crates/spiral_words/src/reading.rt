@@ -1,7 +1,7 @@
 // What the words of a command line ask for.
 ghost use Rattle.std.specs.Prelude.{◌≡◌, Err, IfOk, map, string_bytes, codes};
 ghost use Rattle.clap.specs.Words.{found_of, rows_of};
-ghost use Rattle.request_text.specs.Schedule.{schedule_word};
+ghost use Rattle.schedules.specs.Schedule.{schedule_word};
 ghost use Rattle.spiral_words.specs.declared.app.OptionName.TheVariants as option;
 ghost use Rattle.spiral_words.specs.CommandLine.{text_of};
 ghost use Rattle.spiral_words.specs.Asked.{AsksOrder, IsAsked, IsUsage, Means};
@@ -13,7 +13,7 @@ use crate::line::{is_given, parsed, text_of};
 use crate::number::{modulus_of, seed_of};
 use crate::order::{order_of, schedule_of};
 use clap::ArgMatches;
-use request_text::Schedule;
+use schedules::Schedule;
 use std::alloc::Global;
 
 /// What the words ask for, the program's name first.

@@ -11,7 +11,7 @@ use Rattle.icode.specs.Plain.{MulTable, Tile}
 use Rattle.icode.specs.Plain as plain
 use Rattle.icode.proofs.Lists.{code_is}
 use Rattle.icode.proofs.Phase.{effects-append}
-use Rattle.fast_loops.proofs.TwoTables.Listed.{all-left, all-right}
+use Rattle.nests.proofs.Listed.{all-left, all-right}
 use Rattle.word_code.specs.declared.needs.Needs.{Needs}
 use Rattle.word_code.specs.Needs.{no_needs, both_needs, needs_of_stmt, needs}
 use Rattle.word_code.specs.WordMachine.{WordAction, actions_under, word_results}

@@ -9,7 +9,7 @@ use Rattle.std.proofs.lemmas.List.Elements.{All-nil, All-append}
 use Rattle.icode.specs.Actions.{StepFits, PlainFits, steps_of_stmt, steps_of_body}
 use Rattle.icode.specs.Plain.{PlainBody, PlainProgram}
 use Rattle.icode.specs.Plain as plain
-use Rattle.fast_loops.proofs.TwoTables.Listed.{all-left, all-right}
+use Rattle.nests.proofs.Listed.{all-left, all-right}
 use Rattle.word_code.specs.Bare.{NumbersFit, WordsFit}
 use Rattle.word_code.specs.Laws.{IsLazyWithin}
 use Rattle.word_code.specs.Needs.{needs}

@@ -29,7 +29,7 @@ use Rattle.word_code.proofs.Quick.{Scale, bound_outer, bound_of_a, bound_of_b, a
 use Rattle.word_code.proofs.Reduce.{AreReductions, no_reductions, settled_is, set_bound_here, kept_bound}
 use Rattle.word_code.proofs.Puts.{IsSound, IsPut, quick_put, quick_store, zero_put, load_put, add_put, sub_put, neg_put}
 use Rattle.word_code.proofs.Puts.{mul_put, tile_put}
-use Rattle.fast_loops.proofs.Rows.{factors_each}
+use Rattle.nests.proofs.Rows.{factors_each}
 
 abbrev pub scale : Laziness → PlainProgram → Scale
 scale z p =

@@ -11,7 +11,7 @@ use Rattle.icode.specs.Actions.{plain_code}
 use Rattle.icode.specs.Machine.{results}
 use Rattle.icode.specs.Plain.{PlainStmt, PlainBody, PlainProgram}
 use Rattle.icode.specs.Plain as plain
-use Rattle.fast_loops.proofs.TwoTables.Listed.{all-left, all-right}
+use Rattle.nests.proofs.Listed.{all-left, all-right}
 use Rattle.word_code.specs.WordMachine.{WordAction, under, actions_under, word_results}
 use Rattle.word_code.specs.WordProgram.{NoStmts, PlainWordProgram, word_action_of, word_actions_of_stmt}
 use Rattle.word_code.specs.WordProgram.{word_actions_of_body}

@@ -8,7 +8,7 @@ use crate::same::{same, same_in};
 use icode::action::Action;
 use icode::program::Program;
 use par_machine::{Machine, Turned};
-use request_text::{Schedule, read_schedule};
+use schedules::{Schedule, read_schedule};
 use std::alloc::{AllocError, Global};
 use std::fmt::Write;
 use std::process::Abort;

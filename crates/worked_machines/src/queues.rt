@@ -8,7 +8,7 @@ use crate::programs::{program, sharing_program};
 use crate::same::same_in;
 use buffer_machine::{BufMachine, Drained, Event, Turned};
 use icode::program::Program;
-use request_text::{Mix, read_mix};
+use schedules::{Mix, read_mix};
 use std::alloc::{AllocError, Global};
 use std::fmt::Write;
 use std::test::Fail;

@@ -2,7 +2,8 @@
 
 ghost use Rattle.std.specs.Prelude.{◌≤◌};
 
-use request_text::{Mix, Schedule, read_conv, read_mix, read_request, read_schedule};
+use request_text::{read_conv, read_request};
+use schedules::{Mix, Schedule, read_mix, read_schedule};
 use std::alloc::{AllocError, Global};
 use std::fmt::Write;
 use std::test::Fail;

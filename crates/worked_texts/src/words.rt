@@ -1,6 +1,7 @@
 // Command lines.
 
-use request_text::{Event, Mix, Schedule};
+use icode::event::Event;
+use schedules::{Mix, Schedule};
 use spiral_words::{Command, Document, FormulaCommand, Order, Refusal, RequestCommand, command_of};
 use std::alloc::Global;
 use std::test::Fail;

@@ -382,6 +382,9 @@ module _ (c : Target) (g : PlainMerged) (can : CanProgram c g) where
       (subst (λ a. Known c words enough code refl refl refl (0 + length pss) (array_start words a + i))
       (final-is c words enough code refl refl refl pss 0 X count-some) (all.1 i below)))
 
+  few-tables : length p.tables ≤ 2 ^ 64
+  few-tables = let few = can.tables in omega (arith, few)
+
   performs : Performs c g p
   performs =
       record {
@@ -391,6 +394,7 @@ module _ (c : Target) (g : PlainMerged) (can : CanProgram c g) where
         line = refl;
         lanes = refl;
         limits = limits;
+        tables = few-tables;
         fits = fits;
         apart = apart;
         results = results-are;

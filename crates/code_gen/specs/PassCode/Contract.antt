@@ -86,9 +86,9 @@ pub record IsByPhase (h : Target) (g : PlainMerged) (code : Code) (q : ℕ) : Ty
   pub lists : ArePhaseParts code q 0 g.phases phases
   pub each : AreParts h 0 X (all_passes g.phases) (in_a_row phases)
 
--- It is for the machine, stands within the limits and fits, and no processor touches a line that another writes in a
--- phase; run with no turns but those that complete it, it leaves what the merged passes do. It reads nothing that is left
--- over
+-- It is for the machine, and it stands within the limits of listings, with no more tables than a word can count. It
+-- fits, and no processor touches a line that another writes in a phase. Run with no turns but those that complete it, it
+-- leaves what the merged passes do. It reads nothing that is left over
 pub record Performs (h : Target) (g : PlainMerged) (p : PlainProgram) : Type 0 where
   pub size : p.size ≡ h.size
   pub modulus : p.modulus ≡ h.modulus
@@ -96,6 +96,7 @@ pub record Performs (h : Target) (g : PlainMerged) (p : PlainProgram) : Type 0 w
   pub line : p.line ≡ h.line
   pub lanes : p.lanes ≡ h.lanes
   pub limits : IsWithinLimits p
+  pub tables : length p.tables ≤ 2 ^ 64
   pub fits : PlainFits p
   pub apart : (phase : ℕ) → IsApart (plain_code p) phase
   pub results : (x : List ℕ) → IsVector h.modulus h.size x → results (plain_code p) x [] ≡ merged_on h.modulus g x

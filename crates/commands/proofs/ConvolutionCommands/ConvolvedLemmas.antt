@@ -10,8 +10,8 @@ use Rattle.std.specs.Io.KnownBytes.{Appends}
 use Rattle.io_edge.specs.Told.{IsOver}
 use Rattle.matrix_meaning.specs.Convolution.{convolution}
 use Rattle.generate.specs.ConvPlanned.{IsConvPlanned}
-use Rattle.plan_search.specs.declared.convolving.ConvFault.{ConvFault}
-use Rattle.plan_search.specs.declared.convolving.ConvFault.TheVariants as conv
+use Rattle.generate_faults.specs.declared.conv_fault.ConvFault.{ConvFault}
+use Rattle.generate_faults.specs.declared.conv_fault.ConvFault.TheVariants as conv
 use Rattle.data_stream.specs.Data.{tokens}
 use Rattle.data_stream.specs.Vectors.{Cut}
 use Rattle.icode.specs.Machine.{Code, results}
@@ -21,11 +21,11 @@ use Rattle.io_edge.specs.Feed.{Fed, limit}
 use Rattle.io_edge.specs.Taken.{AppendsPrefix}
 use Rattle.listing_text.specs.Listing.{listing_of}
 use Rattle.matrix_meaning.specs.declared.Request.{Request}
-use Rattle.request_text.specs.Schedule.{Plan}
-use Rattle.request_text.specs.Turns.{named, turns_of}
-use Rattle.spiral_words.specs.declared.spiral_status.status.Status.TheVariants.{Success, WriteFault}
-use Rattle.spiral_words.specs.SpiralStatus.Fault.{status_of_conv, status_of_fault, status_of_stream}
-use Rattle.spiral_words.specs.SpiralStatus.Status.{IsDefined}
+use Rattle.schedules.specs.Schedule.{Plan}
+use Rattle.schedules.specs.Turns.{named, turns_of}
+use Rattle.spiral_words.specs.declared.statuses.status.Status.TheVariants.{Success, WriteFault}
+use Rattle.spiral_words.specs.Statuses.Fault.{status_of_conv, status_of_fault, status_of_stream}
+use Rattle.spiral_words.specs.Statuses.Status.{IsDefined}
 use Rattle.runs.specs.Progress.{HasCome, StreamsBehind, StreamsOn, lacking, HasNoVector}
 use Rattle.runs.specs.Texts.{run_text}
 use Rattle.runs.specs.Stream.{lines, group_vectors, vectors_of, data_answer, data_vectors, Answers, HasNoStranger}
@@ -40,18 +40,18 @@ use Rattle.commands.specs.Equations.Convolve.{outcomes_by_list}
 use Rattle.commands.specs.Equations.Front.{line, by_front}
 use Rattle.commands.specs.Equations.Orders.{Planned, turned}
 use Rattle.commands.specs.Equations.Works.{Wants, a_first, the_first, by_first, mapping, status_by, ReadsOn}
-use Rattle.commands.specs.SpiralInput.Outcomes.{Outcomes, Meets, SourceMeets}
-use Rattle.commands.specs.SpiralInput.Refusals.{IsRefusal}
-use Rattle.commands.specs.SpiralInput.Stage.{◌>>=◌}
+use Rattle.commands.specs.Input.Outcomes.{Outcomes, Meets, SourceMeets}
+use Rattle.commands.specs.Input.Refusals.{IsRefusal}
+use Rattle.commands.specs.Input.Stage.{◌>>=◌}
 use Rattle.commands.proofs.Documents.{with_tree}
 use Rattle.io_edge.proofs.ToldLemmas.{over_left}
-use Rattle.commands.proofs.SpiralInput.DataLemmas.{fine_by, reads_vectors, lines_equal, run_answers, run_meets}
-use Rattle.commands.proofs.SpiralInput.DataLemmas.{turns_below}
-use Rattle.commands.proofs.SpiralInput.OutcomeLemmas.{answered_meets, cut_meets}
-use Rattle.commands.proofs.SpiralInput.StatusLemmas.{failed}
+use Rattle.commands.proofs.Inputs.DataLemmas.{fine_by, reads_vectors, lines_equal, run_answers, run_meets}
+use Rattle.commands.proofs.Inputs.DataLemmas.{turns_below}
+use Rattle.commands.proofs.Inputs.OutcomeLemmas.{answered_meets, cut_meets}
+use Rattle.commands.proofs.Inputs.StatusLemmas.{failed}
 use Rattle.runs.proofs.StreamLemmas.{reads_more}
-use Rattle.commands.proofs.SpiralInput.StageLemmas.{stage_told}
-use Rattle.commands.proofs.SpiralInput.Within.{Within, front_join}
+use Rattle.commands.proofs.Inputs.StageLemmas.{stage_told}
+use Rattle.commands.proofs.Inputs.Within.{Within, front_join}
 
 -- Refusals
 

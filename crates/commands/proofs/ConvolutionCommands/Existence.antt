@@ -4,18 +4,18 @@ use Rattle.generate.proofs.ConvExistence.{conv_plan_exists}
 use Rattle.generate.specs.ConvPlanned.{IsConvPlanned}
 use Rattle.matrix_meaning.specs.Convolving.{IsConvRequest}
 use Rattle.matrix_meaning.specs.declared.Request.{Request}
-use Rattle.plan_search.specs.declared.convolving.ConvFault.{ConvFault}
+use Rattle.generate_faults.specs.declared.conv_fault.ConvFault.{ConvFault}
 use Rattle.request_text.specs.Answer.{ConvAnswers}
 use Rattle.request_text.specs.declared.RequestFault.{RequestFault}
 use Rattle.request_text.proofs.Judged.{conv_in_range}
 use Rattle.request_text.proofs.OneAnswer.{conv_line_answered}
-use Rattle.spiral_words.specs.SpiralStatus.Fault.{status_of_conv, status_of_request}
+use Rattle.spiral_words.specs.Statuses.Fault.{status_of_conv, status_of_request}
 use Rattle.tree_model.specs.Breakdown.{Breakdown}
 use Rattle.commands.specs.Equations.Convolutions.{conv_spelt, conv_chosen, conv_planned}
 use Rattle.commands.specs.Equations.Orders.{turned}
-use Rattle.commands.specs.SpiralInput.Commands.{admitted, first_stranger}
-use Rattle.commands.specs.SpiralInput.Stage.{◌>>=◌}
-use Rattle.commands.proofs.SpiralInput.Stages.{HasAnswer, admitted_same, both_have, given_has}
+use Rattle.commands.specs.Input.Commands.{admitted, first_stranger}
+use Rattle.commands.specs.Input.Stage.{◌>>=◌}
+use Rattle.commands.proofs.Inputs.Stages.{HasAnswer, admitted_same, both_have, given_has}
 
 by_answer : (line : List ℕ) (answer : Result Request RequestFault) → ConvAnswers line answer →
     HasAnswer (conv_spelt line)

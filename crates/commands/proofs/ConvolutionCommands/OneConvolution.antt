@@ -5,23 +5,23 @@ use Rattle.std.proofs.lemmas.Bool.{cases_order}
 use Rattle.std.specs.declared.option.Option.{Option}
 use Rattle.matrix_meaning.specs.Convolution.{IsFirstBadPower}
 use Rattle.generate.specs.ConvPlanned.{IsConvPlanned, both_halves}
-use Rattle.plan_search.specs.declared.convolving.ConvFault.{ConvFault}
-use Rattle.plan_search.specs.declared.convolving.ConvFault.TheVariants as conv
+use Rattle.generate_faults.specs.declared.conv_fault.ConvFault.{ConvFault}
+use Rattle.generate_faults.specs.declared.conv_fault.ConvFault.TheVariants as conv
 use Rattle.plan_search.proofs.OneTree.{whole_once}
 use Rattle.plan_search.proofs.WholeChosen.{whole_least_once}
 use Rattle.matrix_meaning.specs.declared.Request.{Request}
 use Rattle.matrix_meaning.specs.Parts.{bad_power}
 use Rattle.request_text.specs.declared.RequestFault.{RequestFault}
 use Rattle.request_text.proofs.OneAnswer.{one_conv_answer}
-use Rattle.spiral_words.specs.SpiralStatus.Fault.{status_of_conv, status_of_request}
+use Rattle.spiral_words.specs.Statuses.Fault.{status_of_conv, status_of_request}
 use Rattle.tree_model.specs.Breakdown.{Breakdown}
 use Rattle.tree_model.specs.Chosen.{whole_cost}
-use Rattle.commands.specs.SpiralInput.Commands.{admitted, first_stranger}
+use Rattle.commands.specs.Input.Commands.{admitted, first_stranger}
 use Rattle.commands.specs.Equations.Convolutions.{conv_spelt, conv_chosen, conv_planned}
 use Rattle.commands.specs.Equations.Orders.{turned}
-use Rattle.commands.specs.SpiralInput.Stage.{◌>>=◌}
+use Rattle.commands.specs.Input.Stage.{◌>>=◌}
 use Rattle.commands.proofs.Documents.{with_tree}
-use Rattle.commands.proofs.SpiralInput.Stages.{IsDecided, done, ended, given_decided, bind_decided}
+use Rattle.commands.proofs.Inputs.Stages.{IsDecided, done, ended, given_decided, bind_decided}
 
 -- The line
 

@@ -21,16 +21,16 @@ use Rattle.io_edge.specs.declared.feed.FeedFault.{FeedFault}
 use Rattle.io_edge.specs.declared.feed.FeedFault.TheVariants as feed
 use Rattle.io_edge.specs.Feed.{Fed, Feeds, limit}
 use Rattle.io_edge.specs.Taken.{AppendsPrefix}
-use Rattle.data_stream.specs.InputRest.FeedFaults.{rest_fault}
-use Rattle.data_stream.specs.declared.input_rest.RestFault.{RestFault}
-use Rattle.data_stream.specs.declared.input_rest.RestFault.TheVariants as rest_fault
-use Rattle.request_text.specs.Schedule.{Plan}
-use Rattle.request_text.specs.Turns.{named, turns_of}
+use Rattle.data_stream.specs.Parts.FeedFaults.{rest_fault}
+use Rattle.data_stream.specs.declared.parts.RestFault.{RestFault}
+use Rattle.data_stream.specs.declared.parts.RestFault.TheVariants as rest_fault
+use Rattle.schedules.specs.Schedule.{Plan}
+use Rattle.schedules.specs.Turns.{named, turns_of}
 use Rattle.spiral_words.specs.declared.Order.TheVariants as order
-use Rattle.spiral_words.specs.declared.spiral_status.status.Status.{Status}
-use Rattle.spiral_words.specs.declared.spiral_status.status.Status.TheVariants.{Success, Turn, ReadFault, WriteFault}
-use Rattle.spiral_words.specs.declared.spiral_status.status.Status.TheVariants.{TooLong}
-use Rattle.spiral_words.specs.SpiralStatus.Fault.{status_of_text}
+use Rattle.spiral_words.specs.declared.statuses.status.Status.{Status}
+use Rattle.spiral_words.specs.declared.statuses.status.Status.TheVariants.{Success, Turn, ReadFault, WriteFault}
+use Rattle.spiral_words.specs.declared.statuses.status.Status.TheVariants.{TooLong}
+use Rattle.spiral_words.specs.Statuses.Fault.{status_of_text}
 use Rattle.runs.specs.Texts.{run_text}
 use Rattle.runs.specs.Stream.{lines, texts, vectors_of, HasNoStranger}
 use Rattle.commands.specs.Equations.Apply.{apply_outcomes, apply_work}
@@ -40,15 +40,15 @@ use Rattle.commands.specs.Equations.Front.{Work, is_line_end, line, by_front}
 use Rattle.commands.specs.Equations.Works.{all, mapping}
 use Rattle.commands.specs.FormulaCommands.Compiled.{GivesText, IsCompiledText, IsFormedProgram}
 use Rattle.commands.specs.Prepared.{stream_work}
-use Rattle.commands.specs.SpiralInput.Commands.{admitted, first_stranger}
-use Rattle.commands.specs.SpiralInput.Line.{IsWhole}
-use Rattle.commands.specs.SpiralInput.Outcomes.{Outcomes, SourceMeets}
-use Rattle.commands.specs.SpiralInput.Stage.{Stage}
-use Rattle.commands.proofs.SpiralInput.DataLemmas.{lines_equal, turns_below}
-use Rattle.commands.proofs.SpiralInput.FrontLemmas.{asks_read_fault, asks_too_long, front_refused, text_told}
-use Rattle.commands.proofs.SpiralInput.LineLemmas.{line_is_front}
-use Rattle.commands.proofs.SpiralInput.Within.{told_within}
-use Rattle.commands.proofs.SpiralInput.OutcomeLemmas.{answered_meets, cut_meets, told_nothing, unread_meets}
+use Rattle.commands.specs.Input.Commands.{admitted, first_stranger}
+use Rattle.commands.specs.Input.Line.{IsWhole}
+use Rattle.commands.specs.Input.Outcomes.{Outcomes, SourceMeets}
+use Rattle.commands.specs.Input.Stage.{Stage}
+use Rattle.commands.proofs.Inputs.DataLemmas.{lines_equal, turns_below}
+use Rattle.commands.proofs.Inputs.FrontLemmas.{asks_read_fault, asks_too_long, front_refused, text_told}
+use Rattle.commands.proofs.Inputs.LineLemmas.{line_is_front}
+use Rattle.commands.proofs.Inputs.Within.{told_within}
+use Rattle.commands.proofs.Inputs.OutcomeLemmas.{answered_meets, cut_meets, told_nothing, unread_meets}
 use Rattle.commands.proofs.StreamLemmas.{mapping_within}
 
 -- The line

@@ -4,10 +4,10 @@ use Rattle.spl_ast.specs.Formula.{Formula}
 use Rattle.spl_text.specs.Answer.{IsFirst, IsLeft}
 use Rattle.spl_text.specs.declared.reading.SplFault.{SplFault}
 use Rattle.spl_text.specs.declared.reading.SplFault.TheVariants as spl
-use Rattle.commands.specs.SpiralInput.Commands.{admitted, first_stranger}
+use Rattle.commands.specs.Input.Commands.{admitted, first_stranger}
 use Rattle.commands.specs.Equations.Formulas.{formed, written}
-use Rattle.spiral_words.specs.SpiralStatus.Fault.{status_of_spl}
-use Rattle.commands.proofs.SpiralInput.Stages.{IsDecided, done, ended, given_decided, bind_decided}
+use Rattle.spiral_words.specs.Statuses.Fault.{status_of_spl}
+use Rattle.commands.proofs.Inputs.Stages.{IsDecided, done, ended, given_decided, bind_decided}
 
 -- A text has one first fault
 

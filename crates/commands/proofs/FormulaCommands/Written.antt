@@ -9,8 +9,8 @@ use Rattle.spl_text.specs.declared.reading.Halt.{Halt}
 use Rattle.spl_text.specs.declared.reading.Halt.TheVariants as halts
 use Rattle.spl_text.specs.declared.reading.SplFault.TheVariants as spl
 use Rattle.spl_text.proofs.Whole.{first_fault, shows_fault, shows_formula}
-use Rattle.spiral_words.specs.SpiralStatus.Fault.{status_of_spl}
-use Rattle.spiral_words.specs.declared.spiral_status.status.Status.{Status}
+use Rattle.spiral_words.specs.Statuses.Fault.{status_of_spl}
+use Rattle.spiral_words.specs.declared.statuses.status.Status.{Status}
 use Rattle.commands.specs.Equations.Formulas.{written}
 
 abbrev IsWritten : List ℕ → Type 0

@@ -10,12 +10,12 @@ use Rattle.listing_text.specs.Texts.{is_listing}
 use Rattle.listing_text.proofs.ListingReads.{listing_judges}
 use Rattle.code_check.specs.Refusals.{action_limit}
 use Rattle.code_check.proofs.Decided.{decided}
-use Rattle.request_text.specs.Schedule.{Plan as Turns}
-use Rattle.spiral_words.specs.declared.spiral_status.status.Status.TheVariants.{ListingSyntax}
-use Rattle.spiral_words.specs.SpiralStatus.Fault.{status_of_check}
+use Rattle.schedules.specs.Schedule.{Plan as Turns}
+use Rattle.spiral_words.specs.declared.statuses.status.Status.TheVariants.{ListingSyntax}
+use Rattle.spiral_words.specs.Statuses.Fault.{status_of_check}
 use Rattle.commands.specs.ListingCommands.Listed.{listed, loaded, verified}
-use Rattle.commands.specs.SpiralInput.Commands.{admitted, stranger}
-use Rattle.commands.proofs.SpiralInput.Stages.{HasAnswer, both_have, given_has}
+use Rattle.commands.specs.Input.Commands.{admitted, stranger}
+use Rattle.commands.proofs.Inputs.Stages.{HasAnswer, both_have, given_has}
 
 -- ---- the text
 

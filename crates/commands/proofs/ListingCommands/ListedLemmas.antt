@@ -16,30 +16,30 @@ use Rattle.icode.proofs.Runs.{memory_of_runs}
 use Rattle.listing_text.specs.Texts.{is_listing}
 use Rattle.code_check.specs.Refusals.{PassesCheck, action_limit}
 use Rattle.io_edge.specs.Feed.{limit}
-use Rattle.data_stream.specs.declared.input_rest.RestFault.{RestFault}
-use Rattle.data_stream.specs.declared.input_rest.RestFault.TheVariants as rest_fault
-use Rattle.data_stream.specs.InputRest.Part.{ends_line, has_empty_line, behind_empty_line, second_part, IsWholePart}
-use Rattle.data_stream.specs.InputRest.Part.{GivesPart}
-use Rattle.data_stream.proofs.InputRest.PartLemmas.{still_ended}
+use Rattle.data_stream.specs.declared.parts.RestFault.{RestFault}
+use Rattle.data_stream.specs.declared.parts.RestFault.TheVariants as rest_fault
+use Rattle.data_stream.specs.Parts.Part.{ends_line, has_empty_line, behind_empty_line, second_part, IsWholePart}
+use Rattle.data_stream.specs.Parts.Part.{GivesPart}
+use Rattle.data_stream.proofs.TwoParts.PartLemmas.{still_ended}
 use Rattle.data_stream.specs.Line.{line_of}
-use Rattle.request_text.specs.Schedule.{Plan}
-use Rattle.request_text.specs.Turns.{turns_of}
-use Rattle.spiral_words.specs.SpiralStatus.Fault.{status_of_part}
+use Rattle.schedules.specs.Schedule.{Plan}
+use Rattle.schedules.specs.Turns.{turns_of}
+use Rattle.spiral_words.specs.Statuses.Fault.{status_of_part}
 use Rattle.spiral_words.specs.declared.Order.TheVariants as order
-use Rattle.spiral_words.specs.declared.spiral_status.status.Status.{Status}
-use Rattle.spiral_words.specs.declared.spiral_status.status.Status.TheVariants.{Turn, ReadFault, TooLong}
+use Rattle.spiral_words.specs.declared.statuses.status.Status.{Status}
+use Rattle.spiral_words.specs.declared.statuses.status.Status.TheVariants.{Turn, ReadFault, TooLong}
 use Rattle.runs.specs.Stream.{texts, lines, vectors_of}
 use Rattle.runs.specs.Texts.{run_text}
 use Rattle.commands.specs.ListingCommands.Listed.{loaded, result_of}
 use Rattle.commands.specs.Prepared.{stream_work}
 use Rattle.commands.specs.Equations.Exec.{exec_outcomes, exec_work}
 use Rattle.commands.specs.Equations.Front.{HasEnded, part}
-use Rattle.commands.specs.SpiralInput.Commands.{stranger, admitted}
-use Rattle.commands.specs.SpiralInput.Outcomes.{SourceMeets}
-use Rattle.commands.proofs.SpiralInput.FrontLemmas.{IsFront, asks_read_fault, asks_too_long, front_refused, text_told}
-use Rattle.commands.proofs.SpiralInput.Stages.{admitted_same}
-use Rattle.commands.proofs.SpiralInput.Within.{told_within}
-use Rattle.commands.proofs.SpiralInput.OutcomeLemmas.{told_nothing}
+use Rattle.commands.specs.Input.Commands.{stranger, admitted}
+use Rattle.commands.specs.Input.Outcomes.{SourceMeets}
+use Rattle.commands.proofs.Inputs.FrontLemmas.{IsFront, asks_read_fault, asks_too_long, front_refused, text_told}
+use Rattle.commands.proofs.Inputs.Stages.{admitted_same}
+use Rattle.commands.proofs.Inputs.Within.{told_within}
+use Rattle.commands.proofs.Inputs.OutcomeLemmas.{told_nothing}
 use Rattle.commands.proofs.StreamLemmas.{mapping_within}
 
 -- The front

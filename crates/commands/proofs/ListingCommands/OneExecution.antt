@@ -11,13 +11,13 @@ use Rattle.listing_text.specs.Progress.{finish, step}
 use Rattle.listing_text.specs.Texts.{is_listing}
 use Rattle.listing_text.proofs.ListingReads.{listing_judges}
 use Rattle.code_check.proofs.Causes.{one_cause, none_if_passed}
-use Rattle.request_text.specs.Schedule.{Plan}
-use Rattle.spiral_words.specs.declared.spiral_status.status.Status.TheVariants.{ListingSyntax}
-use Rattle.commands.specs.SpiralInput.Commands.{stranger, admitted}
-use Rattle.spiral_words.specs.SpiralStatus.Fault.{status_of_check}
+use Rattle.schedules.specs.Schedule.{Plan}
+use Rattle.spiral_words.specs.declared.statuses.status.Status.TheVariants.{ListingSyntax}
+use Rattle.commands.specs.Input.Commands.{stranger, admitted}
+use Rattle.spiral_words.specs.Statuses.Fault.{status_of_check}
 use Rattle.code_check.specs.Refusals.{action_limit}
 use Rattle.commands.specs.ListingCommands.Listed.{listed, verified, loaded}
-use Rattle.commands.proofs.SpiralInput.Stages.{IsDecided, done, ended, given_decided, bind_decided}
+use Rattle.commands.proofs.Inputs.Stages.{IsDecided, done, ended, given_decided, bind_decided}
 
 -- A text is lost in one line
 

@@ -2,13 +2,13 @@ use Rattle.std.proofs.lemmas.Result.{err_from_is_err_and}
 use Rattle.commands.specs.Equations.Front.{line}
 use Rattle.commands.specs.Equations.Orders.{turned}
 use Rattle.commands.specs.Equations.Requests.{outcomes_by_request, work_for}
-use Rattle.commands.specs.SpiralInput.Asking.{spelt}
-use Rattle.commands.specs.SpiralInput.Commands.{procs_named}
-use Rattle.commands.specs.SpiralInput.Stage.{◌>>=◌, status_of}
+use Rattle.commands.specs.Input.Asking.{spelt}
+use Rattle.commands.specs.Input.Commands.{procs_named}
+use Rattle.commands.specs.Input.Stage.{◌>>=◌, status_of}
 use Rattle.commands.proofs.Performs.{by_line, request_within}
-use Rattle.commands.proofs.SpiralInput.FrontLemmas.{front_refused, front_told}
-use Rattle.commands.proofs.SpiralInput.LineLemmas.{line_is_front}
-use Rattle.commands.proofs.SpiralInput.Within.{told_within}
+use Rattle.commands.proofs.Inputs.FrontLemmas.{front_refused, front_told}
+use Rattle.commands.proofs.Inputs.LineLemmas.{line_is_front}
+use Rattle.commands.proofs.Inputs.Within.{told_within}
 use Rattle.commands.proofs.perform.Goals as goal
 
 pub returns-in_err-request-clause-told : goal.returns-in_err-request-clause-told

@@ -3,9 +3,9 @@ use Rattle.io_edge.specs.Feed.{to_come, limit}
 use Rattle.spiral_words.specs.declared.RequestCommand.{RequestCommand}
 use Rattle.spiral_words.specs.declared.RequestCommand.TheVariants as command
 use Rattle.commands.specs.Equations.Requests.{work_for}
-use Rattle.commands.specs.SpiralInput.Stage.{status_of}
-use Rattle.commands.specs.SpiralInput.Outcomes.{SourceMeets}
-use Rattle.commands.proofs.SpiralInput.OutcomeLemmas.{unread_meets}
+use Rattle.commands.specs.Input.Stage.{status_of}
+use Rattle.commands.specs.Input.Outcomes.{SourceMeets}
+use Rattle.commands.proofs.Inputs.OutcomeLemmas.{unread_meets}
 use Rattle.commands.proofs.perform_for.Goals as goal
 
 pub returns-in-Writes-clause-told : goal.returns-in-Writes-clause-told

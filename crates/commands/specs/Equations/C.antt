@@ -2,7 +2,7 @@
 use Rattle.std.specs.Prelude.{◌≡◌, ℕ, List, []}
 use Rattle.c_print.specs.CText.{c_text_of}
 use Rattle.generate.specs.Emission.Whole.{emission}
-use Rattle.commands.specs.SpiralInput.Outcomes.{Outcomes}
+use Rattle.commands.specs.Input.Outcomes.{Outcomes}
 use Rattle.commands.specs.Equations.Front.{Answer, line, answered, by_front}
 use Rattle.commands.specs.Equations.Works.{printed, writing}
 use Rattle.commands.specs.Equations.Orders.{Planned, planned}

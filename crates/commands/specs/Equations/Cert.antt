@@ -1,7 +1,7 @@
 -- What is right for `cert`.
 use Rattle.std.specs.Prelude.{[]}
 use Rattle.plan_cert.specs.Table.{IsTableText}
-use Rattle.commands.specs.SpiralInput.Outcomes.{Outcomes}
+use Rattle.commands.specs.Input.Outcomes.{Outcomes}
 use Rattle.commands.specs.Equations.Front.{Answer, line, answered, by_front}
 use Rattle.commands.specs.Equations.Works.{printed, writing}
 use Rattle.commands.specs.Equations.Orders.{Planned, planned}

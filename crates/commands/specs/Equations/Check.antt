@@ -1,13 +1,13 @@
 -- What is right for `check`.
 use Rattle.std.specs.Prelude.{◌≡◌, Ok, Err}
-use Rattle.plan_search.specs.declared.generating.GenerateFault.{GenerateFault}
+use Rattle.generate_faults.specs.declared.generate_fault.GenerateFault.{GenerateFault}
 use Rattle.plan_cert.specs.Verdict.{IsVerdict}
 use Rattle.generate.specs.Planned.{IsAdmitted, IsBarred}
 use Rattle.matrix_meaning.specs.declared.Request.{Request}
-use Rattle.spiral_words.specs.SpiralStatus.Fault.{status_of_generate}
-use Rattle.commands.specs.SpiralInput.Asking.{spelt}
-use Rattle.commands.specs.SpiralInput.Outcomes.{Outcomes}
-use Rattle.commands.specs.SpiralInput.Stage.{Stage, ◌>>=◌}
+use Rattle.spiral_words.specs.Statuses.Fault.{status_of_generate}
+use Rattle.commands.specs.Input.Asking.{spelt}
+use Rattle.commands.specs.Input.Outcomes.{Outcomes}
+use Rattle.commands.specs.Input.Stage.{Stage, ◌>>=◌}
 use Rattle.commands.specs.Equations.Front.{Answer, line, answered, by_front}
 use Rattle.commands.specs.Equations.Works.{judged_by, judging}
 

@@ -4,7 +4,7 @@ use Rattle.spiral_words.specs.declared.Command.{Command}
 use Rattle.spiral_words.specs.declared.Command.TheVariants.{ByRequest, ByFormula, ByListing, ByList}
 use Rattle.spiral_words.specs.declared.FormulaCommand.{FormulaCommand}
 use Rattle.spiral_words.specs.declared.FormulaCommand.TheVariants as formula
-use Rattle.commands.specs.SpiralInput.Outcomes.{Outcomes}
+use Rattle.commands.specs.Input.Outcomes.{Outcomes}
 use Rattle.commands.specs.Equations.Apply.{apply_outcomes}
 use Rattle.commands.specs.Equations.Compile.{compile_outcomes}
 use Rattle.commands.specs.Equations.Convolve.{outcomes_by_list}

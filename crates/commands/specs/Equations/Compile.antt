@@ -3,7 +3,7 @@ use Rattle.std.specs.Prelude.{◌≡◌, ℕ, List}
 use Rattle.generate.specs.FormulaCode.Letters.{program_for}
 use Rattle.listing_text.specs.Listing.{listing_of}
 use Rattle.spl_ast.specs.Formula.{Formula}
-use Rattle.commands.specs.SpiralInput.Outcomes.{Outcomes}
+use Rattle.commands.specs.Input.Outcomes.{Outcomes}
 use Rattle.commands.specs.Equations.Formulas.{written}
 use Rattle.commands.specs.Equations.Front.{Answer, Work, line, answered, by_front}
 use Rattle.commands.specs.Equations.Works.{printed, writing}

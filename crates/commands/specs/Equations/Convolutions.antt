@@ -2,11 +2,11 @@
 use Rattle.std.specs.Prelude.{◌≡◌, ℕ, List, Ok, Err}
 use Rattle.generate.specs.ConvPlanned.{IsConvPlanned}
 use Rattle.matrix_meaning.specs.declared.Request.{Request}
-use Rattle.plan_search.specs.declared.convolving.ConvFault.{ConvFault}
+use Rattle.generate_faults.specs.declared.conv_fault.ConvFault.{ConvFault}
 use Rattle.request_text.specs.Answer.{ConvAnswers}
 use Rattle.request_text.specs.declared.RequestFault.{RequestFault}
-use Rattle.spiral_words.specs.SpiralStatus.Fault.{status_of_conv, status_of_request}
-use Rattle.commands.specs.SpiralInput.Stage.{Stage, ◌>>=◌}
+use Rattle.spiral_words.specs.Statuses.Fault.{status_of_conv, status_of_request}
+use Rattle.commands.specs.Input.Stage.{Stage, ◌>>=◌}
 use Rattle.commands.specs.Equations.Orders.{Planned, turned}
 
 -- the request that the line spells, if it is in range and its size has an inverse

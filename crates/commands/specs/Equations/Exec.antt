@@ -1,10 +1,10 @@
 -- What is right for `exec`.
 use Rattle.std.specs.Prelude.{◌≡◌, ℕ, List}
 use Rattle.icode.specs.Plain.{PlainProgram}
-use Rattle.request_text.specs.Schedule.{Plan as Turns}
+use Rattle.schedules.specs.Schedule.{Plan as Turns}
 use Rattle.runs.specs.Stream.{lines}
 use Rattle.commands.specs.ListingCommands.Listed.{loaded, result_of}
-use Rattle.commands.specs.SpiralInput.Outcomes.{Outcomes}
+use Rattle.commands.specs.Input.Outcomes.{Outcomes}
 use Rattle.commands.specs.Equations.Front.{Answer, Work, part, answered, by_front}
 use Rattle.commands.specs.Equations.Works.{all, mapped, mapping}
 

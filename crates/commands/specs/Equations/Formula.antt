@@ -2,7 +2,7 @@
 use Rattle.std.specs.Prelude.{◌≡◌, [], ◌∷◌, ◌++◌, List, ℕ}
 use Rattle.spl_text.specs.Spelling.{spelling}
 use Rattle.breakdown.specs.Expansion.{formula_of}
-use Rattle.commands.specs.SpiralInput.Outcomes.{Outcomes}
+use Rattle.commands.specs.Input.Outcomes.{Outcomes}
 use Rattle.commands.specs.Equations.Front.{Answer, line, answered, by_front}
 use Rattle.commands.specs.Equations.Works.{printed, writing}
 use Rattle.commands.specs.Equations.Orders.{Planned, planned}

@@ -4,9 +4,9 @@ use Rattle.spl_ast.specs.Formula.{Formula}
 use Rattle.spl_text.specs.Answer.{IsFirst, Shows}
 use Rattle.spl_text.specs.declared.reading.SplFault.{SplFault}
 use Rattle.spl_text.specs.declared.reading.SplFault.TheVariants as spl
-use Rattle.spiral_words.specs.SpiralStatus.Fault.{status_of_spl}
-use Rattle.commands.specs.SpiralInput.Commands.{admitted, first_stranger}
-use Rattle.commands.specs.SpiralInput.Stage.{Stage, given, ◌>>=◌}
+use Rattle.spiral_words.specs.Statuses.Fault.{status_of_spl}
+use Rattle.commands.specs.Input.Commands.{admitted, first_stranger}
+use Rattle.commands.specs.Input.Stage.{Stage, given, ◌>>=◌}
 
 -- the formula that the text spells, or the first fault from left to right
 abbrev pub written : List ℕ → Stage Formula

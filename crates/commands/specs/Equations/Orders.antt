@@ -1,10 +1,10 @@
 -- What the line of a request orders: the request, and the tree that is chosen for it.
 use Rattle.std.specs.Prelude.{◌≡◌, ℕ, List, Ok, Err}
-use Rattle.plan_search.specs.declared.generating.GenerateFault.{GenerateFault}
-use Rattle.spiral_words.specs.SpiralStatus.Fault.{status_of_generate}
-use Rattle.commands.specs.SpiralInput.Asking.{spelt}
-use Rattle.commands.specs.SpiralInput.Commands.{admitted, first_stranger}
-use Rattle.commands.specs.SpiralInput.Stage.{Stage, given, ◌>>=◌}
+use Rattle.generate_faults.specs.declared.generate_fault.GenerateFault.{GenerateFault}
+use Rattle.spiral_words.specs.Statuses.Fault.{status_of_generate}
+use Rattle.commands.specs.Input.Asking.{spelt}
+use Rattle.commands.specs.Input.Commands.{admitted, first_stranger}
+use Rattle.commands.specs.Input.Stage.{Stage, given, ◌>>=◌}
 use Rattle.generate.specs.Planned.{IsPlanned}
 use Rattle.matrix_meaning.specs.declared.Request.{Request}
 use Rattle.tree_model.specs.Breakdown.{Breakdown}

@@ -1,7 +1,7 @@
 -- What is right for `plan`.
 use Rattle.std.specs.Prelude.{◌≡◌, ℕ, List, []}
 use Rattle.commands.specs.PlanText.{plan_text}
-use Rattle.commands.specs.SpiralInput.Outcomes.{Outcomes}
+use Rattle.commands.specs.Input.Outcomes.{Outcomes}
 use Rattle.commands.specs.Equations.Front.{Answer, line, answered, by_front}
 use Rattle.commands.specs.Equations.Works.{printed, writing}
 use Rattle.commands.specs.Equations.Orders.{Planned, planned}

@@ -7,7 +7,7 @@ use Rattle.spiral_words.specs.declared.Document.{Document}
 use Rattle.spiral_words.specs.declared.Document.TheVariants.{Plan, Formula, Code, C, Cert, Sample}
 use Rattle.spiral_words.specs.declared.RequestCommand.{RequestCommand}
 use Rattle.spiral_words.specs.declared.RequestCommand.TheVariants.{Writes, Runs, Traces, Judges}
-use Rattle.commands.specs.SpiralInput.Outcomes.{Outcomes}
+use Rattle.commands.specs.Input.Outcomes.{Outcomes}
 use Rattle.commands.specs.Equations.Front.{Work, staged}
 use Rattle.commands.specs.Equations.Works.{writing, judging}
 use Rattle.commands.specs.Equations.Orders.{Planned, chosen}

@@ -3,13 +3,13 @@ use Rattle.std.specs.Prelude.{◌≡◌, ◌≤◌, ℕ, List, Ok, Err}
 use Rattle.generate.specs.Planned.{HasNoPlan, IsRooted}
 use Rattle.matrix_meaning.specs.Asked.{asked_of}
 use Rattle.matrix_meaning.specs.declared.Request.{Request}
-use Rattle.plan_search.specs.declared.generating.GenerateFault.{GenerateFault}
-use Rattle.spiral_words.specs.SpiralStatus.Fault.{status_of_generate}
+use Rattle.generate_faults.specs.declared.generate_fault.GenerateFault.{GenerateFault}
+use Rattle.spiral_words.specs.Statuses.Fault.{status_of_generate}
 use Rattle.spiral_words.specs.declared.Order.{Order}
 use Rattle.runs.specs.Stream.{lines}
-use Rattle.commands.specs.SpiralInput.Orders.{procs_in}
-use Rattle.commands.specs.SpiralInput.Outcomes.{Outcomes}
-use Rattle.commands.specs.SpiralInput.Stage.{Stage, ◌>>=◌}
+use Rattle.commands.specs.Input.Orders.{procs_in}
+use Rattle.commands.specs.Input.Outcomes.{Outcomes}
+use Rattle.commands.specs.Input.Stage.{Stage, ◌>>=◌}
 use Rattle.commands.specs.Equations.Front.{Answer, Work, line, answered, by_front}
 use Rattle.commands.specs.Equations.Works.{all, mapped, mapping}
 use Rattle.commands.specs.Equations.Orders.{Planned, planned, spelt_for}

@@ -1,12 +1,12 @@
 -- What is right for `sample`.
 use Rattle.std.specs.Prelude.{◌≡◌, ℕ, List}
-use Rattle.request_text.specs.Schedule.{Plan as Turns}
-use Rattle.request_text.specs.Turns.{named}
+use Rattle.schedules.specs.Schedule.{Plan as Turns}
+use Rattle.schedules.specs.Turns.{named}
 use Rattle.tree_model.specs.WholePasses.{whole_loads, whole_stores}
 use Rattle.matrix_meaning.specs.Asked.{asked_of}
 use Rattle.tree_model.specs.Chosen.{whole_cost}
 use Rattle.commands.specs.Sample.{sample_vector, weighted_sum, sample_text}
-use Rattle.commands.specs.SpiralInput.Outcomes.{Outcomes}
+use Rattle.commands.specs.Input.Outcomes.{Outcomes}
 use Rattle.commands.specs.Equations.Front.{Answer, line, answered, by_front}
 use Rattle.commands.specs.Equations.Works.{printed, writing}
 use Rattle.commands.specs.Equations.Orders.{Planned, planned}

@@ -6,8 +6,8 @@ use Rattle.generate.specs.Emission.Whole.{emission}
 use Rattle.spiral_words.specs.declared.Order.{Order}
 use Rattle.runs.specs.Stream.{texts}
 use Rattle.commands.specs.OrderText.{order_text}
-use Rattle.commands.specs.SpiralInput.Orders.{procs_in}
-use Rattle.commands.specs.SpiralInput.Outcomes.{Outcomes}
+use Rattle.commands.specs.Input.Orders.{procs_in}
+use Rattle.commands.specs.Input.Outcomes.{Outcomes}
 use Rattle.commands.specs.Equations.Front.{Answer, Work, line, answered, by_front}
 use Rattle.commands.specs.Equations.Works.{all, mapped, mapping}
 use Rattle.commands.specs.Equations.Orders.{Planned, planned}

@@ -3,13 +3,13 @@
 use Rattle.std.specs.Prelude.{◌≡◌, ◌⊎◌, ℕ, ◌≤◌, List, [], ◌∷◌, length, Result}
 use Rattle.plan_cert.specs.declared.verdict.Verdict.{Verdict}
 use Rattle.data_stream.specs.Data.{tokens, closed_part}
-use Rattle.spiral_words.specs.declared.spiral_status.status.Status.{Status}
-use Rattle.spiral_words.specs.declared.spiral_status.status.Status.TheVariants.{Success}
-use Rattle.spiral_words.specs.SpiralStatus.Fault.{status_of_fault, status_of_stream}
+use Rattle.spiral_words.specs.declared.statuses.status.Status.{Status}
+use Rattle.spiral_words.specs.declared.statuses.status.Status.TheVariants.{Success}
+use Rattle.spiral_words.specs.Statuses.Fault.{status_of_fault, status_of_stream}
 use Rattle.runs.specs.Progress.{lacking}
 use Rattle.runs.specs.Stream.{vectors_of, data_answer, data_vectors}
 use Rattle.runs.specs.declared.stream.StreamFault.{StreamFault}
-use Rattle.commands.specs.SpiralInput.Fine.{IsFine}
+use Rattle.commands.specs.Input.Fine.{IsFine}
 use Rattle.commands.specs.Checked.{certificate_limit, status_of_verdict, verdict_text, IsOverlong}
 use Rattle.commands.specs.Equations.Front.{Answer, Work}
 

@@ -1,19 +1,19 @@
 -- What the parts of a call for a formula answer.
 use Rattle.std.specs.Prelude.{◌≡◌, ℕ, ◌+◌, ◌<◌, ◌≤◌, List, ◌++◌, length, Vec, Ok, Err, Result}
 use Rattle.std.proofs.Common.{Global}
-use Rattle.data_stream.specs.declared.input_rest.RestFault.{RestFault}
-use Rattle.data_stream.specs.declared.input_rest.RestFault.TheVariants as rest
+use Rattle.data_stream.specs.declared.parts.RestFault.{RestFault}
+use Rattle.data_stream.specs.declared.parts.RestFault.TheVariants as rest
 use Rattle.generate.specs.FormulaCode.Code.{IsCodeOf}
 use Rattle.generate.specs.FormulaCode.Letters.{program_for}
 use Rattle.icode.specs.Program.{plain_program}
 use Rattle.icode.specs.declared.program.Program.{Program}
 use Rattle.listing_text.specs.Listing.{listing_of}
-use Rattle.spiral_words.specs.declared.spiral_status.status.Status.{Status}
-use Rattle.spiral_words.specs.SpiralStatus.Fault.{status_of_text}
+use Rattle.spiral_words.specs.declared.statuses.status.Status.{Status}
+use Rattle.spiral_words.specs.Statuses.Fault.{status_of_text}
 use Rattle.spl_ast.specs.Formula.{Formula}
 use Rattle.commands.specs.Equations.Formulas.{formed, written}
 use Rattle.commands.specs.Equations.Front.{line, MayGoOn}
-use Rattle.commands.specs.SpiralInput.Line.{IsWhole}
+use Rattle.commands.specs.Input.Line.{IsWhole}
 
 -- the answer to a request for the line, by the bytes that were read, and how many were taken
 abbrev pub GivesText : List ℕ → Type 0 → ℕ → Result (Vec ℕ Global) RestFault → Type 0

@@ -9,14 +9,14 @@ use Rattle.listing_text.specs.Texts.{is_listing}
 use Rattle.code_check.specs.declared.fault.CheckFault.{CheckFault}
 use Rattle.code_check.specs.declared.fault.CheckFault.TheVariants as check
 use Rattle.code_check.specs.Refusals.{PassesCheck, IsCause, action_limit}
-use Rattle.data_stream.specs.InputRest.Part.{GivesPart}
-use Rattle.data_stream.specs.declared.input_rest.RestFault.{RestFault}
-use Rattle.request_text.specs.Schedule.{Plan as Turns}
-use Rattle.spiral_words.specs.declared.spiral_status.status.Status.{Status}
-use Rattle.spiral_words.specs.declared.spiral_status.status.Status.TheVariants.{ListingSyntax}
-use Rattle.spiral_words.specs.SpiralStatus.Fault.{status_of_check, status_of_part}
-use Rattle.commands.specs.SpiralInput.Commands.{stranger, admitted}
-use Rattle.commands.specs.SpiralInput.Stage.{Stage, given, ◌>>=◌}
+use Rattle.data_stream.specs.Parts.Part.{GivesPart}
+use Rattle.data_stream.specs.declared.parts.RestFault.{RestFault}
+use Rattle.schedules.specs.Schedule.{Plan as Turns}
+use Rattle.spiral_words.specs.declared.statuses.status.Status.{Status}
+use Rattle.spiral_words.specs.declared.statuses.status.Status.TheVariants.{ListingSyntax}
+use Rattle.spiral_words.specs.Statuses.Fault.{status_of_check, status_of_part}
+use Rattle.commands.specs.Input.Commands.{stranger, admitted}
+use Rattle.commands.specs.Input.Stage.{Stage, given, ◌>>=◌}
 
 -- the program whose listing the text is
 abbrev pub listed : List ℕ → Stage PlainProgram

@@ -5,11 +5,11 @@ ghost use Rattle.spl_ast.specs.Formula.{parts_of};
 ghost use Rattle.commands.specs.Equations.Compile.{compile_outcomes};
 ghost use Rattle.commands.specs.Equations.Formulas.{written};
 ghost use Rattle.commands.specs.FormulaCommands.Compiled.{IsCompiledText};
-ghost use Rattle.commands.specs.SpiralInput.Ends.{EndsCleanly};
-ghost use Rattle.commands.specs.SpiralInput.Outcomes.{SourceMeets};
-ghost use Rattle.commands.specs.SpiralInput.Stage.{status_of};
-ghost use Rattle.spiral_words.specs.SpiralStatus.Status.{IsDefined};
-ghost use Rattle.commands.specs.SpiralInput.Refusals.{IsRefusal};
+ghost use Rattle.commands.specs.Input.Ends.{EndsCleanly};
+ghost use Rattle.commands.specs.Input.Outcomes.{SourceMeets};
+ghost use Rattle.commands.specs.Input.Stage.{status_of};
+ghost use Rattle.spiral_words.specs.Statuses.Status.{IsDefined};
+ghost use Rattle.commands.specs.Input.Refusals.{IsRefusal};
 
 use crate::formula_commands::formula_line::formula_line;
 use generate::formula_program;

@@ -4,7 +4,7 @@ ghost use Rattle.std.specs.Io.KnownBytes.{Consumes};
 ghost use Rattle.io_edge.specs.Told.{IsOver};
 ghost use Rattle.io_edge.specs.Faults.{Reports};
 ghost use Rattle.io_edge.specs.Feed.{to_come};
-ghost use Rattle.commands.specs.SpiralInput.Ends.{ReadsCleanly};
+ghost use Rattle.commands.specs.Input.Ends.{ReadsCleanly};
 ghost use Rattle.commands.specs.FormulaCommands.Compiled.{GivesFormula, GivesText};
 
 use data_stream::RestFault;

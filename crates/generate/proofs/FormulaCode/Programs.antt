@@ -61,12 +61,13 @@ is_code m f p large small shaped few performs =
     record {
       header = record { size = performs.size; modulus = performs.modulus; procs = performs.procs; line = performs.line; lanes = performs.lanes };
       limits = performs.limits;
+      tables = performs.tables;
       fits = performs.fits;
       phases = length-map _ _ ∙ performs.phases;
       apart = performs.apart;
       product = λ x turns vector _.
           any-turns (plain_machine (size_of f) m) (formula_merged m f) p performs x turns ∙ computes.results x vector;
-      again = λ left x turns are vector _.
+      again = λ left x turns are vector.
           among-leftovers (plain_machine (size_of f) m) (formula_merged m f) p performs left x turns are vector.size
           ∙ any-turns (plain_machine (size_of f) m) (formula_merged m f) p performs x turns ∙ computes.results x vector;
       fresh = performs.fresh;

@@ -37,14 +37,15 @@ same_code m f g p regrouped same code = record {
     lanes = code.header.lanes;
   };
   limits = code.limits;
+  tables = code.tables;
   fits = code.fits;
   phases = code.phases;
   apart = code.apart;
   product = λ x turns v mine.
       code.product x turns (subst (λ (n : ℕ). IsVector m n x) (sym same.size) v) mine
       ∙ same.meaning x (vector_of m (size_of f) x v.size v.residues);
-  again = λ left x turns are v mine.
-      code.again left x turns are (subst (λ (n : ℕ). IsVector m n x) (sym same.size) v) mine
+  again = λ left x turns are v.
+      code.again left x turns are (subst (λ (n : ℕ). IsVector m n x) (sym same.size) v)
       ∙ same.meaning x (vector_of m (size_of f) x v.size v.residues);
   fresh = code.fresh;
   operations = code.operations ∙ alike (operations 1 m) (operations-know 1 m) f g regrouped;

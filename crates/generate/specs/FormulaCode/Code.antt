@@ -1,5 +1,5 @@
 -- What makes a program the code of a formula.
-use Rattle.std.specs.Prelude.{◌≡◌, ℕ, ◌<◌, List, length, All}
+use Rattle.std.specs.Prelude.{◌≡◌, ℕ, ◌^◌, ◌≤◌, ◌<◌, List, length, All}
 use Rattle.icode.specs.Actions.{PlainFits, plain_code}
 use Rattle.icode.specs.Fresh.{IsFresh}
 use Rattle.icode.specs.Leftovers.{AreLeftovers, Leftovers, results_among}
@@ -25,12 +25,13 @@ pub record HasHeader (m : ℕ) (f : Formula) (p : PlainProgram) : Type 0 where
 pub record IsCodeOf (m : ℕ) (f : Formula) (p : PlainProgram) : Type 0 where
   pub header : HasHeader m f p
   pub limits : IsWithinLimits p
+  pub tables : length p.tables ≤ 2 ^ 64
   pub fits : PlainFits p
   pub phases : length (plain_code p).lists ≡ 1
   pub apart : (phase : ℕ) → IsApart (plain_code p) phase
   pub product : (x turns : List ℕ) → IsVector m (size_of f) x → All (λ q. q < 1) turns →
       results (plain_code p) x turns ≡ apply m f x
   pub again : (left : Leftovers) (x turns : List ℕ) → AreLeftovers (plain_code p) left → IsVector m (size_of f) x →
-      All (λ q. q < 1) turns → results_among (plain_code p) left x turns ≡ apply m f x
+      results_among (plain_code p) left x turns ≡ apply m f x
   pub fresh : IsFresh (plain_code p)
   pub operations : weighted 1 (whole_counts (plain_code p) 0) ≡ operations 1 m f

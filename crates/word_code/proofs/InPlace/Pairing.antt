@@ -23,7 +23,7 @@ use Rattle.word_code.specs.InPlace.Accesses.{accesses_of_phase}
 use Rattle.word_code.specs.InPlace.Choice.{chosen}
 use Rattle.word_code.specs.InPlace.Routes.{rerouted_op, rerouted_stmt, rerouted_body, rerouted_phase, rerouted}
 use Rattle.word_code.specs.InPlace.View.{StmtFits, BodyFits}
-use Rattle.fast_loops.proofs.TwoTables.Listed.{all-left, all-right}
+use Rattle.nests.proofs.Listed.{all-left, all-right}
 use Rattle.word_code.proofs.InPlace.Pairs.{IsInner, IsTouchPair, ArePairs, pairs-append, stored}
 use Rattle.code_check.proofs.Regular.{array_inside}
 

@@ -17,7 +17,7 @@ use Rattle.word_code.specs.InPlace.Accesses.{Access, are_right, homes_after_all,
 use Rattle.word_code.specs.InPlace.Accesses.{accesses_of_phase}
 use Rattle.word_code.specs.InPlace.Homes.{Homes}
 use Rattle.word_code.specs.InPlace.View.{StmtFits, BodyFits}
-use Rattle.fast_loops.proofs.TwoTables.Listed.{all-left, all-right}
+use Rattle.nests.proofs.Listed.{all-left, all-right}
 use Rattle.word_code.proofs.InPlace.Walks.{right-append, after-append}
 
 -- what is left leads where all of it led

@@ -4,7 +4,7 @@ use Rattle.std.specs.Prelude.{◌==◌, ◌&&◌, Bool, true, false, List, [], �
 use Rattle.icode.specs.declared.program.Array.{Array}
 use Rattle.icode.specs.declared.program.Array.TheVariants.{X, Y, A, B}
 use Rattle.icode.specs.Plain.{PlainExpr, PlainOp, PlainStmt, PlainBody, Sum, Load, Store, Loop, Do, NoStmts, AndStmts}
-use Rattle.fast_loops.specs.Places.{same_parts}
+use Rattle.nests.specs.Places.{same_parts}
 use Rattle.word_code.specs.declared.in_place.places.Side.{Side}
 use Rattle.word_code.specs.declared.in_place.places.Side.TheVariants.{Loads, Stores}
 use Rattle.word_code.specs.declared.in_place.routes.Route.{Route}

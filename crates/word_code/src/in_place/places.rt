@@ -6,9 +6,9 @@ ghost use Rattle.word_code.specs.InPlace.Choice.{same_place, same_places, stays,
 ghost use Rattle.word_code.specs.InPlace.Choice.{first_array_in, place_of, places_of, places_in};
 ghost use Rattle.word_code.specs.InPlace.View.{plain_places};
 
-use fast_loops::same_parts;
 use icode::program::{Array, Expr, Op, Stmt};
 use memory::NoMemory;
+use nests::same_parts;
 use std::alloc::Global;
 
 /// The loads of a statement, or its stores.

@@ -3,11 +3,11 @@ use Rattle.std.proofs.lemmas.Result.{err_from_is_err_and}
 use Rattle.std.proofs.KnownBytes.{Appends-nil}
 use Rattle.io_edge.specs.Feed.{limit}
 use Rattle.plan_cert.specs.declared.verdict.Verdict.TheVariants as verdict
-use Rattle.spiral_words.specs.SpiralStatus.Fault.{status_of_generate}
+use Rattle.spiral_words.specs.Statuses.Fault.{status_of_generate}
 use Rattle.commands.proofs.CheckLemmas.{check_barred, check_unread, found_of, check_judged, check_cut}
 use Rattle.commands.proofs.Documents.{generate_refusal}
-use Rattle.commands.proofs.SpiralInput.StatusLemmas.{rest_usage, refusal_ends}
-use Rattle.commands.proofs.SpiralInput.OutcomeLemmas.{told_nothing}
+use Rattle.commands.proofs.Inputs.StatusLemmas.{rest_usage, refusal_ends}
+use Rattle.commands.proofs.Inputs.OutcomeLemmas.{told_nothing}
 use Rattle.commands.proofs.check.check.Goals as goal
 
 pub returns-in_err-admit-clause-told : goal.returns-in_err-admit-clause-told

@@ -2,12 +2,12 @@ use Rattle.std.proofs.Common.{refl, sym, ◌∙◌}
 use Rattle.std.proofs.lemmas.Result.{err_from_is_err_and}
 use Rattle.io_edge.specs.Told.{IsOver}
 use Rattle.io_edge.specs.Feed.{to_come}
-use Rattle.request_text.specs.Turns.{named}
-use Rattle.commands.specs.SpiralInput.Stage.{◌>>=◌}
+use Rattle.schedules.specs.Turns.{named}
+use Rattle.commands.specs.Input.Stage.{◌>>=◌}
 use Rattle.commands.specs.Equations.Convolutions.{conv_spelt}
 use Rattle.commands.specs.Equations.Orders.{turned}
-use Rattle.commands.proofs.SpiralInput.AskLemmas.{asked_line_fault, asked_request_fault, asked_turn_fault}
-use Rattle.commands.proofs.SpiralInput.AskLemmas.{asked_request}
+use Rattle.commands.proofs.Inputs.AskLemmas.{asked_line_fault, asked_request_fault, asked_turn_fault}
+use Rattle.commands.proofs.Inputs.AskLemmas.{asked_request}
 use Rattle.commands.proofs.convolution_commands.ask_conv.Goals as goal
 
 pub returns-in_err-count-clause-told : goal.returns-in_err-count-clause-told

@@ -1,16 +1,16 @@
 use Rattle.std.proofs.Common.{true, false}
 use Rattle.std.proofs.lemmas.Result.{err_from_is_err_and}
-use Rattle.request_text.specs.Turns.{named}
+use Rattle.schedules.specs.Turns.{named}
 use Rattle.commands.specs.ConvolutionCommands.Convolved.{work_by_list}
 use Rattle.commands.specs.Equations.Convolutions.{conv_spelt}
 use Rattle.commands.specs.Equations.Convolve.{outcomes_by_list}
 use Rattle.commands.specs.Equations.Front.{line}
 use Rattle.commands.specs.Equations.Orders.{turned}
-use Rattle.commands.specs.SpiralInput.Stage.{◌>>=◌, status_of}
+use Rattle.commands.specs.Input.Stage.{◌>>=◌, status_of}
 use Rattle.commands.proofs.ConvolutionCommands.ConvolvedLemmas.{by_line, list_within}
-use Rattle.commands.proofs.SpiralInput.FrontLemmas.{front_refused, front_told}
-use Rattle.commands.proofs.SpiralInput.LineLemmas.{line_is_front}
-use Rattle.commands.proofs.SpiralInput.Within.{told_within}
+use Rattle.commands.proofs.Inputs.FrontLemmas.{front_refused, front_told}
+use Rattle.commands.proofs.Inputs.LineLemmas.{line_is_front}
+use Rattle.commands.proofs.Inputs.Within.{told_within}
 use Rattle.commands.proofs.convolution_commands.convolve.Goals as goal
 
 pub returns-in_err-request-clause-told : goal.returns-in_err-request-clause-told

@@ -5,15 +5,15 @@ use Rattle.generate.specs.Convolver.{IsConvolver}
 use Rattle.generate.specs.Emission.Whole.{conv_emission}
 use Rattle.tree_model.specs.Breakdown.{breakdown_of}
 use Rattle.io_edge.specs.Feed.{to_come, limit}
-use Rattle.spiral_words.specs.SpiralStatus.Fault.{status_of_conv}
+use Rattle.spiral_words.specs.Statuses.Fault.{status_of_conv}
 use Rattle.icode.specs.Program.{plain_program}
 use Rattle.runs.specs.Progress.{HasNoVector}
 use Rattle.commands.specs.ConvolutionCommands.Convolved.{list_work}
 use Rattle.commands.specs.Equations.Convolutions.{conv_chosen}
 use Rattle.commands.proofs.ConvolutionCommands.ConvolvedLemmas.{conv_refused, conv_refusal, convolves_lacking}
 use Rattle.commands.proofs.Documents.{with_tree}
-use Rattle.commands.proofs.SpiralInput.StageLemmas.{stage_refused}
-use Rattle.commands.proofs.SpiralInput.OutcomeLemmas.{told_nothing, unread_nothing}
+use Rattle.commands.proofs.Inputs.StageLemmas.{stage_refused}
+use Rattle.commands.proofs.Inputs.OutcomeLemmas.{told_nothing, unread_nothing}
 use Rattle.commands.proofs.convolution_commands.listed_program.Goals as goal
 
 pub returns-in_err-plan-clause-told : goal.returns-in_err-plan-clause-told

@@ -2,9 +2,9 @@ use Rattle.std.proofs.Common.{◌<◌, arith, true}
 use Rattle.std.proofs.lemmas.Result.{err_from_is_err_and}
 use Rattle.commands.proofs.ConvolutionCommands.ConvolvedLemmas.{convolves_listing, convolves_cut}
 use Rattle.data_stream.proofs.TokensLemmas.{reports_none}
-use Rattle.spiral_words.specs.declared.spiral_status.status.Status.TheVariants.{NoMemory}
-use Rattle.commands.proofs.SpiralInput.StatusLemmas.{quiet_ends}
-use Rattle.commands.proofs.SpiralInput.OutcomeLemmas.{told_nothing}
+use Rattle.spiral_words.specs.declared.statuses.status.Status.TheVariants.{NoMemory}
+use Rattle.commands.proofs.Inputs.StatusLemmas.{quiet_ends}
+use Rattle.commands.proofs.Inputs.OutcomeLemmas.{told_nothing}
 use Rattle.commands.proofs.convolution_commands.print_convolver.Goals as goal
 
 pub returns-in_err-write_all-clause-told : goal.returns-in_err-write_all-clause-told

@@ -3,11 +3,11 @@ use Rattle.std.proofs.lemmas.Result.{err_from_is_err_and}
 use Rattle.data_stream.proofs.TokensLemmas.{reports_none}
 use Rattle.icode.specs.Machine.{runs}
 use Rattle.io_edge.specs.Feed.{to_come}
-use Rattle.spiral_words.specs.declared.spiral_status.status.Status.TheVariants.{NoMemory}
-use Rattle.request_text.specs.Turns.{turns_of}
+use Rattle.spiral_words.specs.declared.statuses.status.Status.TheVariants.{NoMemory}
+use Rattle.schedules.specs.Turns.{turns_of}
 use Rattle.commands.proofs.ConvolutionCommands.ConvolvedLemmas.{list_come, convolves_run}
-use Rattle.commands.proofs.SpiralInput.StatusLemmas.{quiet_ends, run_ends}
-use Rattle.commands.proofs.SpiralInput.OutcomeLemmas.{told_nothing}
+use Rattle.commands.proofs.Inputs.StatusLemmas.{quiet_ends, run_ends}
+use Rattle.commands.proofs.Inputs.OutcomeLemmas.{told_nothing}
 use Rattle.commands.proofs.convolution_commands.run_convolver.Goals as goal
 
 pub returns-in_err-run_vectors-clause-told : goal.returns-in_err-run_vectors-clause-told

@@ -3,10 +3,10 @@ use Rattle.std.proofs.lemmas.Result.{err_from_is_err_and}
 use Rattle.io_edge.specs.Feed.{limit}
 use Rattle.commands.specs.Equations.Orders.{chosen}
 use Rattle.commands.specs.Equations.Run.{run_work}
-use Rattle.commands.specs.SpiralInput.Orders.{procs_in}
-use Rattle.commands.specs.SpiralInput.Stage.{status_of}
+use Rattle.commands.specs.Input.Orders.{procs_in}
+use Rattle.commands.specs.Input.Stage.{status_of}
 use Rattle.commands.proofs.RunLemmas.{no_stranger, run_told}
-use Rattle.commands.proofs.SpiralInput.StageLemmas.{stage_refused}
+use Rattle.commands.proofs.Inputs.StageLemmas.{stage_refused}
 use Rattle.commands.proofs.data.run.Goals as goal
 
 pub stream-requires-clause-turns : goal.stream-requires-clause-turns

@@ -3,11 +3,11 @@ use Rattle.std.proofs.lemmas.Result.{err_from_is_err_and}
 use Rattle.io_edge.specs.Feed.{limit}
 use Rattle.commands.specs.Equations.Orders.{chosen}
 use Rattle.commands.specs.Equations.Trace.{trace_work}
-use Rattle.commands.specs.SpiralInput.Orders.{procs_in}
-use Rattle.commands.specs.SpiralInput.Stage.{status_of}
+use Rattle.commands.specs.Input.Orders.{procs_in}
+use Rattle.commands.specs.Input.Stage.{status_of}
 use Rattle.commands.proofs.RunLemmas.{no_stranger, trace_told}
-use Rattle.commands.proofs.SpiralInput.StageLemmas.{stage_refused}
-use Rattle.commands.proofs.SpiralInput.OutcomeLemmas.{unread_nothing}
+use Rattle.commands.proofs.Inputs.StageLemmas.{stage_refused}
+use Rattle.commands.proofs.Inputs.OutcomeLemmas.{unread_nothing}
 use Rattle.commands.proofs.data.trace.Goals as goal
 
 pub stream-requires-clause-turns : goal.stream-requires-clause-turns

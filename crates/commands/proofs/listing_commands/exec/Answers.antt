@@ -1,10 +1,10 @@
 use Rattle.std.proofs.Common.{zero-add, ◌∙◌, length}
 use Rattle.std.proofs.lemmas.Result.{err_from_is_err_and}
-use Rattle.commands.specs.SpiralInput.Stage.{status_of}
+use Rattle.commands.specs.Input.Stage.{status_of}
 use Rattle.commands.specs.Equations.Exec.{exec_work}
 use Rattle.commands.specs.Equations.Front.{part}
 use Rattle.commands.specs.ListingCommands.Listed.{loaded}
-use Rattle.commands.proofs.SpiralInput.FrontLemmas.{text_refused}
+use Rattle.commands.proofs.Inputs.FrontLemmas.{text_refused}
 use Rattle.commands.proofs.ListingCommands.ListedLemmas.{exec_unread, exec_told}
 use Rattle.commands.proofs.listing_commands.exec.Goals as goal
 

@@ -1,6 +1,6 @@
 use Rattle.std.proofs.Common.{◌<◌, ap, sym, ◌∙◌, arith, length}
 use Rattle.std.proofs.lemmas.List.{take_all, take_more_set}
-use Rattle.request_text.specs.Turns.{next_state}
+use Rattle.schedules.specs.Turns.{next_state}
 use Rattle.commands.specs.Sample.{sample_vector}
 use Rattle.commands.proofs.SampleLemmas.{state_more, sample_more}
 use Rattle.commands.proofs.sample.fill.Goals as goal

@@ -1,5 +1,5 @@
 use Rattle.std.proofs.Common.{◌≡◌, take}
-use Rattle.request_text.specs.Turns.{state_after}
+use Rattle.schedules.specs.Turns.{state_after}
 use Rattle.commands.specs.Sample.{sample_vector}
 use Rattle.commands.proofs.sample.fill.Given as goal
 

@@ -2,7 +2,7 @@ use Rattle.std.proofs.Common.{◌≡◌, ap, sym, subst, ◌∙◌, length}
 use Rattle.std.proofs.lemmas.List.{with_items_is}
 use Rattle.std.specs.Vec.{with_items}
 use Rattle.icode.specs.Machine.{Code, weighted}
-use Rattle.request_text.specs.Turns.{turns_of}
+use Rattle.schedules.specs.Turns.{turns_of}
 use Rattle.commands.specs.Sample.{sample_text, weighted_sum, AreCountable}
 use Rattle.commands.proofs.SampleLemmas.{sample_residues, good_counts, costs, cost_fits, sampled}
 use Rattle.commands.proofs.Programs.{good_code}

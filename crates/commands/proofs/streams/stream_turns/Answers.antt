@@ -5,9 +5,9 @@ use Rattle.io_edge.specs.Feed.{limit}
 use Rattle.spiral_words.specs.declared.Order.TheVariants as order
 use Rattle.runs.specs.Stream.{HasNoStranger}
 use Rattle.commands.proofs.StreamLemmas.{front_cut, turns_told}
-use Rattle.commands.proofs.SpiralInput.StatusLemmas.{fault_success, quiet_ends, run_ends, write_ends}
-use Rattle.spiral_words.specs.declared.spiral_status.status.Status.TheVariants.{NoMemory}
-use Rattle.commands.proofs.SpiralInput.OutcomeLemmas.{unread_nothing}
+use Rattle.commands.proofs.Inputs.StatusLemmas.{fault_success, quiet_ends, run_ends, write_ends}
+use Rattle.spiral_words.specs.declared.statuses.status.Status.TheVariants.{NoMemory}
+use Rattle.commands.proofs.Inputs.OutcomeLemmas.{unread_nothing}
 use Rattle.commands.proofs.streams.stream_turns.Goals as goal
 
 pub run_stream-requires-clause-no_stranger : goal.run_stream-requires-clause-no_stranger

@@ -1,7 +1,7 @@
 use Rattle.std.proofs.Common.{ne_eqb, ap, sym, ◌∙◌}
 use Rattle.std.specs.Prelude.{if◌then◌else◌}
 use Rattle.icode.specs.Program.{plain_program}
-use Rattle.fast_loops.specs.Interchange.{interchanged}
+use Rattle.interchange.specs.Interchanged.{interchanged}
 use Rattle.fast_main.specs.Translation.{on_several}
 use Rattle.fast_main.proofs.prepare.put_on_lanes.Goals as goal
 

@@ -1,5 +1,5 @@
 use Rattle.std.proofs.Common.{Ok, Err, sym, ap, ◌∙◌}
-use Rattle.request_text.specs.Few.{spelt}
+use Rattle.request_text.specs.OneToFour.{spelt}
 use Rattle.request_text.specs.Limits.{judged_conv}
 use Rattle.request_text.proofs.ConvLine.{conv_line_judges}
 use Rattle.request_text.proofs.Judged.{conv_answered_in_range, conv_judged_answers}

@@ -1,5 +1,5 @@
 use Rattle.std.proofs.Common.{length}
-use Rattle.request_text.specs.Few.{items}
+use Rattle.request_text.specs.OneToFour.{items}
 use Rattle.request_text.proofs.judge.+products_within.Given as goal
 
 abbrev pub decreases-products_within : goal.decreases-products_within

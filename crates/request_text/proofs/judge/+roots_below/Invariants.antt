@@ -1,5 +1,5 @@
 use Rattle.std.proofs.Common.{length}
-use Rattle.request_text.specs.Few.{items}
+use Rattle.request_text.specs.OneToFour.{items}
 use Rattle.request_text.proofs.judge.+roots_below.Given as goal
 
 abbrev pub decreases-roots_below : goal.decreases-roots_below

@@ -1,5 +1,5 @@
 use Rattle.std.proofs.Common.{length}
-use Rattle.request_text.specs.Few.{items}
+use Rattle.request_text.specs.OneToFour.{items}
 use Rattle.request_text.proofs.judge.+sizes_within.Given as goal
 
 abbrev pub decreases-sizes_within : goal.decreases-sizes_within

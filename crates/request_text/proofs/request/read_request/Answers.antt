@@ -1,5 +1,5 @@
 use Rattle.std.proofs.Common.{Ok, Err, sym, ap, ◌∙◌}
-use Rattle.request_text.specs.Few.{spelt}
+use Rattle.request_text.specs.OneToFour.{spelt}
 use Rattle.request_text.specs.Limits.{judged}
 use Rattle.request_text.proofs.Line.{line_judges}
 use Rattle.request_text.proofs.Judged.{answered_in_range, judged_answers}

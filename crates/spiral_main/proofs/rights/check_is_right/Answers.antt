@@ -4,13 +4,13 @@ use Rattle.plan_cert.specs.Verdict.{IsVerdict}
 use Rattle.plan_cert.specs.declared.verdict.Verdict.TheVariants.{Least}
 use Rattle.spiral_words.specs.declared.Command.TheVariants as command
 use Rattle.spiral_words.specs.declared.RequestCommand.TheVariants as request
-use Rattle.spiral_words.specs.declared.spiral_status.status.Status.TheVariants.{Success}
+use Rattle.spiral_words.specs.declared.statuses.status.Status.TheVariants.{Success}
 use Rattle.commands.specs.Checked.{least_line}
 use Rattle.commands.specs.Equations.Check.{fitting}
 use Rattle.commands.specs.Equations.Front.{line}
 use Rattle.commands.specs.Equations.Works.{judging}
-use Rattle.commands.specs.SpiralInput.Asking.{spelt}
-use Rattle.commands.specs.SpiralInput.Stage.{◌>>=◌}
+use Rattle.commands.specs.Input.Asking.{spelt}
+use Rattle.commands.specs.Input.Stage.{◌>>=◌}
 use Rattle.spiral_main.proofs.RightFront.{front_answer}
 use Rattle.spiral_main.proofs.rights.check_is_right.Goals as goal
 

@@ -1,7 +1,7 @@
 use Rattle.std.proofs.Common.{inr, refl, codes}
 use Rattle.runs.specs.Stream.{lines}
 use Rattle.matrix_meaning.specs.Asked.{asked_of}
-use Rattle.commands.specs.SpiralInput.Orders.{procs_in}
+use Rattle.commands.specs.Input.Orders.{procs_in}
 use Rattle.spiral_words.specs.declared.Command.TheVariants as command
 use Rattle.spiral_words.specs.declared.RequestCommand.TheVariants as request
 use Rattle.spiral_main.proofs.RightFront.{data_are_right}

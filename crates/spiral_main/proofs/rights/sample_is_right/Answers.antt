@@ -1,5 +1,5 @@
 use Rattle.std.proofs.Common.{inr, refl, codes}
-use Rattle.request_text.specs.Turns.{named}
+use Rattle.schedules.specs.Turns.{named}
 use Rattle.commands.specs.Equations.Sample.{sample_lines}
 use Rattle.spiral_words.specs.declared.Command.TheVariants as command
 use Rattle.spiral_words.specs.declared.Document.TheVariants as document

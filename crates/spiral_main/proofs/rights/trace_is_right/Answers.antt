@@ -2,7 +2,7 @@ use Rattle.std.proofs.Common.{◌++◌, inr, refl, codes}
 use Rattle.listing_text.specs.Listing.{listing_of}
 use Rattle.commands.specs.Emission.Whole.{emission}
 use Rattle.commands.specs.Equations.Trace.{run_lines}
-use Rattle.commands.specs.SpiralInput.Orders.{procs_in}
+use Rattle.commands.specs.Input.Orders.{procs_in}
 use Rattle.spiral_words.specs.declared.Command.TheVariants as command
 use Rattle.spiral_words.specs.declared.RequestCommand.TheVariants as request
 use Rattle.spiral_main.proofs.RightFront.{data_are_right}

@@ -1,5 +1,6 @@
 use Rattle.std.proofs.Common.{Global, map, string_bytes}
 use Rattle.spiral_main.specs.Outcome.{AccountsFor}
+use Rattle.spiral_main.proofs.FormulaTheorem.{formula_run_is_right}
 use Rattle.spiral_main.proofs.Theorem.{any_run_is_right}
 use Rattle.spiral_main.proofs.run.spiral_run.Goals as goal
 
@@ -21,4 +22,15 @@ returns-clause-right g c = λ well.
     let told : AccountsFor words (left c.args.input.now) (left c.work.new.input) (taken c.args.output.now)
     (taken c.work.new.output) status = rw c.ending-status.ensures c.work.ensures.told in
     any_run_is_right words (left c.args.input.now) (left c.work.new.input) (taken c.args.output.now)
+    (taken c.work.new.output) status told well
+
+pub returns-clause-formulas : goal.returns-clause-formulas
+returns-clause-formulas g c = λ well.
+    let words = map (string_bytes {Z = Global}) c.args.words.now.items in
+    let left = g.I.Source.left in
+    let taken = g.O.Sink.taken in
+    let status = c.ending-status.result in
+    let told : AccountsFor words (left c.args.input.now) (left c.work.new.input) (taken c.args.output.now)
+    (taken c.work.new.output) status = rw c.ending-status.ensures c.work.ensures.told in
+    formula_run_is_right words (left c.args.input.now) (left c.work.new.input) (taken c.args.output.now)
     (taken c.work.new.output) status told well

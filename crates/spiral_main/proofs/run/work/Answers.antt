@@ -3,7 +3,7 @@ use Rattle.std.proofs.lemmas.Result.{err_from_is_err_and}
 use Rattle.spiral_words.specs.Asked.{IsAsked}
 use Rattle.spiral_words.specs.declared.Command.{Command}
 use Rattle.spiral_words.specs.declared.Command.TheVariants as command
-use Rattle.commands.proofs.SpiralInput.AskLemmas.{reads_same}
+use Rattle.commands.proofs.Inputs.AskLemmas.{reads_same}
 use Rattle.io_edge.proofs.ToldLemmas.{left_over}
 use Rattle.spiral_main.proofs.Accounts.{accounted_nothing, accounted_words, command_told}
 use Rattle.spiral_main.proofs.run.work.Goals as goal

@@ -10,7 +10,7 @@ use Rattle.word_code.specs.Setting.{AreBoundsWithin, header_in}
 use Rattle.word_code.specs.View.{lazy_of}
 use Rattle.word_code.proofs.Emitting.{made-more, loop_made, stmt_sane}
 use Rattle.word_code.proofs.quicken.+quicken_stmt.Goals as goal
-use Rattle.fast_loops.proofs.JoinedLoops.Seen.{item-within}
+use Rattle.nests.proofs.Limited.{item-within}
 
 pub quicken_stmt-requires : goal.quicken_stmt-requires
 quicken_stmt-requires t c =

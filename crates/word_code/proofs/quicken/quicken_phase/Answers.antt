@@ -5,7 +5,7 @@ use Rattle.word_code.specs.Setting.{AreBoundsWithin, header_in}
 use Rattle.word_code.specs.View.{lazy_of}
 use Rattle.word_code.proofs.Emitting.{made-more, made-all, stmt_sane}
 use Rattle.word_code.proofs.quicken.quicken_phase.Goals as goal
-use Rattle.fast_loops.proofs.JoinedLoops.Seen.{item-within}
+use Rattle.nests.proofs.Limited.{item-within}
 
 pub quicken_stmt-requires-clause-within : goal.quicken_stmt-requires-clause-within
 quicken_stmt-requires-clause-within c =

@@ -8,7 +8,7 @@ use Rattle.word_code.proofs.Emitting.{made-more, made-all}
 use Rattle.word_code.proofs.Needing.{length-each}
 use Rattle.word_code.proofs.Loosening.{alone_splits, needed_sane}
 use Rattle.word_code.proofs.single.quicken_alone.Goals as goal
-use Rattle.fast_loops.proofs.JoinedLoops.Seen.{item-within}
+use Rattle.nests.proofs.Limited.{item-within}
 
 pub index-requires : goal.index-requires
 index-requires c =

@@ -1,6 +1,6 @@
 use Rattle.std.proofs.Common.{◌≡◌, None, nat_le, subst, sym}
 use Rattle.std.specs.List.{find}
-use Rattle.request_text.specs.Turns.{named}
+use Rattle.schedules.specs.Turns.{named}
 use Rattle.worked_machines.proofs.lines.streamed.Goals as goal
 
 pub run_stream-result-requires-clause-no_stranger : goal.run_stream-result-requires-clause-no_stranger

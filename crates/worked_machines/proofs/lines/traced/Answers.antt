@@ -1,6 +1,6 @@
 use Rattle.std.proofs.Common.{◌≡◌, None, nat_le, subst, sym}
 use Rattle.std.specs.List.{find}
-use Rattle.request_text.specs.Turns.{named}
+use Rattle.schedules.specs.Turns.{named}
 use Rattle.worked_machines.proofs.lines.traced.Goals as goal
 
 pub write_steps-result-requires : goal.write_steps-result-requires

@@ -1,6 +1,6 @@
 use Rattle.std.proofs.Common.{◌≡◌, None, nat_le, subst, sym}
 use Rattle.std.specs.List.{find}
-use Rattle.request_text.specs.Turns.{named}
+use Rattle.schedules.specs.Turns.{named}
 use Rattle.worked_machines.proofs.machines.run.Goals as goal
 
 pub run_list-requires : goal.run_list-requires

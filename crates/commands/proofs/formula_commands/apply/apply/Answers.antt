@@ -1,14 +1,14 @@
 use Rattle.std.proofs.Common.{Err, subst}
 use Rattle.std.proofs.lemmas.Result.{err_from_is_err_and}
 use Rattle.data_stream.proofs.TokensLemmas.{reports_none}
-use Rattle.request_text.specs.Turns.{named}
-use Rattle.spiral_words.specs.SpiralStatus.Status.{IsDefined}
+use Rattle.schedules.specs.Turns.{named}
+use Rattle.spiral_words.specs.Statuses.Status.{IsDefined}
 use Rattle.commands.specs.Equations.Apply.{apply_work}
 use Rattle.commands.specs.Equations.Formulas.{formed}
-use Rattle.commands.specs.SpiralInput.Ends.{EndsCleanly}
-use Rattle.commands.specs.SpiralInput.Stage.{status_of}
+use Rattle.commands.specs.Input.Ends.{EndsCleanly}
+use Rattle.commands.specs.Input.Stage.{status_of}
 use Rattle.commands.specs.Equations.Front.{line}
-use Rattle.commands.proofs.SpiralInput.FrontLemmas.{text_refused}
+use Rattle.commands.proofs.Inputs.FrontLemmas.{text_refused}
 use Rattle.commands.proofs.FormulaCommands.CompiledLemmas.{line_unread, apply_told}
 use Rattle.commands.proofs.formula_commands.apply.apply.Goals as goal
 

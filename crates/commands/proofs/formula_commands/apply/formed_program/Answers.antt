@@ -1,6 +1,6 @@
 use Rattle.std.proofs.Common.{sym, subst, ◌∙◌, inl}
 use Rattle.std.proofs.lemmas.Result.{err_from_is_err_and}
-use Rattle.request_text.specs.Turns.{named}
+use Rattle.schedules.specs.Turns.{named}
 use Rattle.runs.specs.Stream.{HasNoStranger}
 use Rattle.commands.proofs.FormulaCommands.CompiledLemmas.{unformed, forms}
 use Rattle.commands.proofs.formula_commands.apply.formed_program.Goals as goal

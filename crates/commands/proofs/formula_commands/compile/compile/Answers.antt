@@ -1,10 +1,10 @@
 use Rattle.std.proofs.Common.{Err, subst}
 use Rattle.std.proofs.lemmas.Result.{err_from_is_err_and}
-use Rattle.spiral_words.specs.SpiralStatus.Status.{IsDefined}
+use Rattle.spiral_words.specs.Statuses.Status.{IsDefined}
 use Rattle.commands.specs.Equations.Compile.{compile_work}
 use Rattle.commands.specs.Equations.Formulas.{written}
 use Rattle.commands.specs.Equations.Front.{line}
-use Rattle.commands.proofs.SpiralInput.FrontLemmas.{text_refused}
+use Rattle.commands.proofs.Inputs.FrontLemmas.{text_refused}
 use Rattle.commands.proofs.FormulaCommands.CompiledLemmas.{line_unread, compile_told, compile_cut}
 use Rattle.commands.proofs.formula_commands.compile.compile.Goals as goal
 

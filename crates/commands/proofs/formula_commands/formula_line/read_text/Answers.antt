@@ -6,7 +6,7 @@ use Rattle.io_edge.specs.Told.{IsOver}
 use Rattle.io_edge.specs.Feed.{to_come}
 use Rattle.commands.specs.Equations.Front.{is_line_end}
 use Rattle.commands.proofs.FormulaCommands.CompiledLemmas.{text_failed}
-use Rattle.commands.proofs.SpiralInput.LineLemmas.{unended_push, line_ended, line_cut, line_longer}
+use Rattle.commands.proofs.Inputs.LineLemmas.{unended_push, line_ended, line_cut, line_longer}
 use Rattle.commands.proofs.formula_commands.formula_line.read_text.Goals as goal
 
 pub returns-in_err-byte-clause-answer : goal.returns-in_err-byte-clause-answer

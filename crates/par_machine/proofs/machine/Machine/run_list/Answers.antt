@@ -1,7 +1,7 @@
 use Rattle.std.proofs.Common.{◌≡◌, None, arith, subst, sym, ap, nat_le}
 use Rattle.std.specs.List.{find}
 use Rattle.icode.specs.Machine.{Code}
-use Rattle.request_text.specs.Turns.{named}
+use Rattle.schedules.specs.Turns.{named}
 use Rattle.par_machine.proofs.Schedules.{turns_there}
 use Rattle.par_machine.proofs.machine.Machine.run_list.Goals as goal
 

@@ -1,6 +1,6 @@
 use Rattle.std.proofs.Common.{◌≡◌, drop}
 use Rattle.icode.specs.Machine.{run}
-use Rattle.request_text.specs.Turns.{turns_of}
+use Rattle.schedules.specs.Turns.{turns_of}
 use Rattle.par_machine.proofs.machine.Machine.run_list.Given as goal
 
 abbrev pub invariant-loop-i : goal.invariant-loop-i

@@ -1,5 +1,5 @@
 use Rattle.std.proofs.Common.{◌∙◌, sym, ap}
-use Rattle.request_text.specs.Turns.{turns_of}
+use Rattle.schedules.specs.Turns.{turns_of}
 use Rattle.runs.specs.Standing.{direct}
 use Rattle.runs.proofs.TwoMachines.{walked_turns}
 use Rattle.runs.proofs.direct.MachineEngine.play.Goals as goal

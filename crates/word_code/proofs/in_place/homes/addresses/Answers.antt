@@ -1,6 +1,6 @@
 use Rattle.std.proofs.Common.{sym, ap, ◌∙◌, ◌++◌, ◌∷◌, []}
 use Rattle.word_code.proofs.in_place.homes.addresses.Goals as goal
-use Rattle.fast_loops.proofs.LoopLanes.Made.{range-more}
+use Rattle.nests.proofs.Straight.{range-more}
 
 pub loop-address-preserved : goal.loop-address-preserved
 loop-address-preserved c =

@@ -3,7 +3,7 @@ use Rattle.std.specs.Vec.{with_items}
 use Rattle.std.proofs.lemmas.List.{with_items_is}
 use Rattle.word_code.specs.declared.program.WordStmt.{WordStmt}
 use Rattle.word_code.specs.View.{plain_word_body}
-use Rattle.fast_loops.proofs.Items.{changed-more, changed-all}
+use Rattle.nests.proofs.Items.{changed-more, changed-all}
 use Rattle.word_code.specs.InPlace.Routes.{rerouted_phase}
 use Rattle.word_code.proofs.in_place.reroute.reroute_phases.Goals as goal
 

@@ -1,7 +1,7 @@
 use Rattle.std.proofs.Common.{Vec, Global}
 use Rattle.word_code.specs.declared.program.WordStmt.{WordStmt}
 use Rattle.word_code.specs.View.{plain_word_body}
-use Rattle.fast_loops.proofs.Items.{AreChanged}
+use Rattle.nests.proofs.Items.{AreChanged}
 use Rattle.word_code.specs.InPlace.Routes.{rerouted_phase}
 use Rattle.word_code.proofs.in_place.reroute.reroute_phases.Given as goal
 

@@ -1,0 +1,3 @@
+pub mod Coalesced
+pub mod Laws
+pub mod View

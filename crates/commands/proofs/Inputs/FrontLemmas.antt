@@ -1,0 +1,229 @@
+-- From what comes after a front to the whole input.
+use Rattle.std.proofs.Common.{◌≡◌, ◌≢◌, ◌<◌, ◌≤◌, ◌+◌, ◌-◌, ℕ, true, false, List, [], ◌++◌, Ok, Err, Result, nat_le}
+use Rattle.std.proofs.Common.{length, cond, refl, sym, ap, subst, ◌∙◌, arith, append_assoc, length-append, inl, inr}
+use Rattle.std.proofs.lemmas.Grind.{common_steps}
+use Rattle.std.proofs.KnownBytes.{Appends-nil, Consumes-trans}
+use Rattle.std.specs.declared.option.Option.{Option}
+use Rattle.std.specs.Io.KnownBytes.{Consumes}
+use Rattle.io_edge.specs.Told.{IsOver}
+use Rattle.io_edge.specs.Feed.{limit}
+use Rattle.spiral_words.specs.Statuses.Status.{IsDefined}
+use Rattle.spiral_words.specs.declared.statuses.status.Status.{Status}
+use Rattle.spiral_words.specs.declared.statuses.status.Status.TheVariants.{ReadFault, WriteFault, TooLong}
+use Rattle.commands.specs.Input.Asking.{AsksBy, Asks}
+use Rattle.commands.specs.Input.Line.{IsWhole}
+use Rattle.commands.specs.Input.Outcomes.{Meets, SourceMeets}
+use Rattle.commands.specs.Input.Refusals.{IsRefusal}
+use Rattle.commands.specs.Input.Stage.{Stage, HasGiven}
+use Rattle.commands.specs.Equations.Front.{Front, MayGoOn, HasEnded, Work, taken_from, room_behind, ordered, by_front}
+use Rattle.commands.proofs.Inputs.InputLemmas.{none_cut}
+use Rattle.io_edge.proofs.ToldLemmas.{over_left, over_rest}
+
+-- What holds of each front
+
+pub record IsFront (front : Front) : Type 0 where
+  -- one that has ended has ended after further bytes too
+  pub kept : (read more : List ℕ) → front.has_end read ≡ true → front.has_end (read ++ more) ≡ true
+  -- one has ended where what comes after it is known, whatever follows
+  pub there : (read rest : List ℕ) → ((more : List ℕ) → (rest ≡ [] → more ≡ []) → front.behind (read ++ more) ≡ more) →
+      HasEnded front read (rest ≡ [])
+
+still_ended : (front : Front) → IsFront front → (read more : List ℕ) (now later : Type 0) → HasEnded front read now →
+    (now → later) → HasEnded front (read ++ more) later
+still_ended front is read more now later (inl there) goes = inl (is.kept read more there)
+still_ended front is read more now later (inr e) goes = inr (goes e)
+
+-- as many bytes may come after it as the limit leaves after what was taken for it
+room_after : (front : Front) (read more : List ℕ) (taken : ℕ) → taken ≡ length read →
+    front.behind (read ++ more) ≡ more → limit - taken ≡ room_behind front (read ++ more)
+room_after front read more taken count is =
+    let whole : length (read ++ more) ≡ length read + length more = length-append read more in
+    let behind : length (front.behind (read ++ more)) ≡ length more = ap length is in
+    ap (λ n. limit - n) (omega (arith, count, whole, behind))
+
+-- a front that is not too long, and one that is
+pub front_short : (front : Front) (bytes text : List ℕ) → front.first bytes ≡ text → length text ≤ front.most →
+    taken_from front bytes ≡ Ok text
+front_short front bytes text same short =
+    let test : nat_le (length text) front.most ≡ true = grind (arith, common_steps) in
+    ap (λ l. cond {A = Result (List ℕ) Status} (nat_le (length l) front.most) (Ok l) (Err (TooLong front.most))) same
+    ∙ ap (λ b. cond {A = Result (List ℕ) Status} b (Ok text) (Err (TooLong front.most))) test
+
+pub front_long : (front : Front) (bytes : List ℕ) → front.most < length (front.first bytes) →
+    taken_from front bytes ≡ Err (TooLong front.most)
+front_long front bytes long =
+    let test : nat_le (length (front.first bytes)) front.most ≡ false = grind (arith, common_steps) in
+    ap (λ b. cond {A = Result (List ℕ) Status} b (Ok (front.first bytes)) (Err (TooLong front.most))) test
+
+-- The front orders a value
+
+-- what the work comes to after the front is right for the whole input
+front_meets : {A : Type 0} (front : Front) → IsFront front →
+    (orders : List ℕ → Stage A) (work : A → Work) (bytes read rest : List ℕ) (taken : ℕ) (value : A)
+    (left : List ℕ) (out out' : Option (List ℕ)) (status : Status)
+    → bytes ≡ read ++ rest → AsksBy front orders read (rest ≡ []) taken (Ok value)
+    → Meets (work value (limit - taken)) rest left out out' status
+    → Meets (by_front front orders work) bytes left out out' status
+front_meets {A} front is orders work bytes read rest taken value left out out' status whole asked p =
+    let here = asked.1 rest (λ e. e) in
+    let ordered_here : ordered front orders bytes (Ok value) = subst (λ b. ordered front orders b (Ok value)) (sym whole) here.0 in
+    let data_here : front.behind bytes ≡ rest = ap front.behind whole ∙ here.1 in
+    let room : limit - taken ≡ room_behind front bytes = subst (λ b. limit - taken ≡ room_behind front b) (sym whole) (room_after front read rest taken asked.0 here.1) in
+    let line : HasEnded front read (rest ≡ []) = is.there read rest (λ more none. (asked.1 more none).1) in
+    let has : (more : List ℕ) (ended : Type 0) → (rest ≡ [] → more ≡ []) → (rest ≡ [] → ended) → HasGiven (HasEnded front (read ++ more) ended) (ordered front orders (read ++ more)) value =
+    λ more ended none goes. record {
+      front = still_ended front is read more (rest ≡ []) ended line goes;
+      gives = (asked.1 more none).0;
+    } in
+    record {
+      answer = λ d.
+          let found = p.answer d in (
+            found.0,
+            inr (
+              value,
+              ordered_here,
+              subst (λ n. (work value n).answer (front.behind bytes) status found.0) room
+                  (subst (λ b. (work value (limit - taken)).answer b status found.0) (sym data_here) found.1),
+            ),
+            found.2,
+          );
+      read_fault = λ e.
+          let found = p.read_fault e in
+          let none : rest ≡ [] → found.0 ≡ [] = λ end. (none_cut rest found.0 left found.2 end).0 in (
+            read ++ found.0,
+            found.1,
+            whole ∙ ap (λ l. read ++ l) found.2 ∙ sym (append_assoc read found.0 left),
+            inr (
+              value,
+              has found.0 (left ≡ []) none (λ end. (none_cut rest found.0 left found.2 end).1),
+              subst (λ n. (work value n).broken (front.behind (read ++ found.0)) (left ≡ []) found.1) (room_after front read found.0 taken asked.0 (asked.1 found.0 none).1)
+                  (subst (λ b. (work value (limit - taken)).broken b (left ≡ []) found.1) (sym (asked.1 found.0 none).1) found.3),
+            ),
+            found.4,
+          );
+      write_fault = λ e.
+          let found = p.write_fault e in
+          let none : rest ≡ [] → found.0 ≡ [] = λ end. (none_cut rest found.0 left found.2 end).0 in (
+            read ++ found.0,
+            found.1,
+            whole ∙ ap (λ l. read ++ l) found.2 ∙ sym (append_assoc read found.0 left),
+            (
+              value,
+              has found.0 (left ≡ []) none (λ end. (none_cut rest found.0 left found.2 end).1),
+              subst (λ n. (work value n).cut (front.behind (read ++ found.0)) left found.1) (room_after front read found.0 taken asked.0 (asked.1 found.0 none).1)
+                  (subst (λ b. (work value (limit - taken)).cut b left found.1) (sym (asked.1 found.0 none).1) found.3),
+            ),
+            found.4,
+          );
+    }
+
+pub front_told : {A : Type 0} (front : Front) → IsFront front →
+    (orders : List ℕ → Stage A) (work : A → Work) (before mid left : Option (List ℕ)) (taken : ℕ) (value : A)
+    (out out' : Option (List ℕ)) (status : Status)
+    → Asks front orders before mid taken (Ok value)
+    → SourceMeets (work value (limit - taken)) mid left out out' status
+    → SourceMeets (by_front front orders work) before left out out' status
+front_told front is orders work before mid left taken value out out' status a p = record {
+  read = a.read ++ p.read;
+  consumed = Consumes-trans before mid left a.read p.read a.consumed p.consumed;
+  meets = λ rest tells.
+      let behind : List ℕ = p.read ++ rest in
+      let asked : AsksBy front orders a.read (behind ≡ []) taken (Ok value) =
+      (a.asks.0, λ more none. a.asks.1 more (λ over. none (over_rest mid left p.read rest p.consumed tells over))) in
+      front_meets front is orders work ((a.read ++ p.read) ++ rest) a.read behind taken value rest out out' status
+      (append_assoc a.read p.read rest) asked (p.meets rest tells);
+}
+
+-- The front orders nothing
+
+pub front_refused : {A : Type 0} (front : Front) (orders : List ℕ → Stage A) (work : A → Work)
+    (before left out : Option (List ℕ)) (taken : ℕ) (status : Status)
+    → Asks front orders before left taken (Err status) → status ≢ WriteFault
+    → SourceMeets (by_front front orders work) before left out out status
+front_refused front orders work before left out taken status a w = record {
+  read = a.read;
+  consumed = a.consumed;
+  meets = λ rest tells. record {
+    answer = λ d. ([], inl (a.asks.0 d rest (over_left left rest tells), refl), Appends-nil out);
+    read_fault = λ e. (a.read, [], refl, inl (a.asks.1 e, refl), Appends-nil out);
+    write_fault = λ e. absurd (w e);
+  };
+}
+
+-- What a call for the front answers
+
+-- the front can't be read
+pub asks_read_fault : {A : Type 0} (front : Front) (orders : List ℕ → Stage A) (before after : Option (List ℕ))
+    (taken : ℕ) (read : List ℕ)
+    → Consumes before after read → MayGoOn front read → Asks front orders before after taken (Err ReadFault)
+asks_read_fault front orders before after taken read consumed part =
+    record { read = read; consumed = consumed; asks = (λ d. absurd (d.read refl), λ _. part) }
+
+-- it is too long
+pub asks_too_long : {A : Type 0} (front : Front) (orders : List ℕ → Stage A) (before after : Option (List ℕ))
+    (taken : ℕ) (read : List ℕ)
+    → Consumes before after read → ((more : List ℕ) → front.most < length (front.first (read ++ more))) →
+    Asks front orders before after taken (Err (TooLong front.most))
+asks_too_long front orders before after taken read consumed long = record {
+  read = read;
+  consumed = consumed;
+  asks = (λ _ more none. inl (sym (front_long front (read ++ more) (long more))), λ e. absurd (cc));
+}
+
+-- its text orders nothing
+pub asks_refused : {A : Type 0} (front : Front) (orders : List ℕ → Stage A) (before after : Option (List ℕ)) (taken : ℕ)
+    (read text : List ℕ) (status : Status)
+    → Consumes before after read → IsWhole front read (IsOver after) text → length text ≤ front.most
+    → (IsDefined status → orders text (Err status)) → status ≢ ReadFault
+    → Asks front orders before after taken (Err status)
+asks_refused front orders before after taken read text status consumed whole short refused other = record {
+  read = read;
+  consumed = consumed;
+  asks = (
+    λ d more none.
+        let there = front_short front (read ++ more) text (whole more none).0 short in
+        inr (record { value = text; before = sym there; behind = refused d }),
+    λ e. absurd (other e),
+  );
+}
+
+-- its text orders a value
+pub asks_value : {A : Type 0} (front : Front) (orders : List ℕ → Stage A) (before after : Option (List ℕ)) (taken : ℕ)
+    (read text : List ℕ) (value : A)
+    → Consumes before after read → taken ≡ length read → IsWhole front read (IsOver after) text
+    → length text ≤ front.most → orders text (Ok value)
+    → Asks front orders before after taken (Ok value)
+asks_value front orders before after taken read text value consumed count whole short gives = record {
+  read = read;
+  consumed = consumed;
+  asks = (
+    count,
+    λ more none.
+        let parts = whole more none in
+        (record { value = text; before = sym (front_short front (read ++ more) text parts.0 short); behind = gives }, parts.1),
+  );
+}
+
+-- The whole input, by a front that was read whole
+
+module _ {A : Type 0} (front : Front) (orders : List ℕ → Stage A) (work : A → Work) where
+  -- its text orders nothing
+  pub text_refused : (before after out : Option (List ℕ)) (taken : ℕ) (read text : List ℕ) (status : Status)
+      → Consumes before after read → IsWhole front read (IsOver after) text → length text ≤ front.most
+      → (IsDefined status → orders text (Err status)) → IsRefusal status
+      → SourceMeets (by_front front orders work) before after out out status
+  text_refused before after out taken read text status consumed whole short refused refusal =
+      front_refused front orders work before after out taken status
+      (asks_refused front orders before after taken read text status consumed whole short refused refusal.read)
+      refusal.write
+
+  -- its text orders a value, and after it this is right for the value's work
+  pub text_told : IsFront front → (before mid left out out' : Option (List ℕ)) (taken : ℕ) (read text : List ℕ)
+      (value : A) (status : Status)
+      → Consumes before mid read → taken ≡ length read → IsWhole front read (IsOver mid) text
+      → length text ≤ front.most → orders text (Ok value)
+      → SourceMeets (work value (limit - taken)) mid left out out' status
+      → SourceMeets (by_front front orders work) before left out out' status
+  text_told is before mid left out out' taken read text value status consumed count whole short gives p =
+      front_told front is orders work before mid left taken value out out' status
+      (asks_value front orders before mid taken read text value consumed count whole short gives) p

@@ -1,0 +1,62 @@
+-- Status and output that are right for a call.
+use Rattle.std.proofs.Common.{◌≡◌, ◌≢◌, ℕ, List, [], ◌++◌, refl}
+use Rattle.std.proofs.KnownBytes.{Appends-nil, Consumes-nil}
+use Rattle.std.specs.declared.option.Option.{Option}
+use Rattle.std.specs.Io.KnownBytes.{Appends, Consumes}
+use Rattle.io_edge.specs.Taken.{AppendsPrefix}
+use Rattle.spiral_words.specs.Statuses.Status.{IsDefined}
+use Rattle.spiral_words.specs.declared.statuses.status.Status.{Status}
+use Rattle.spiral_words.specs.declared.statuses.status.Status.TheVariants.{ReadFault, WriteFault, NoMemory}
+use Rattle.commands.specs.Input.Outcomes.{Outcomes, Meets, SourceMeets}
+
+-- of a call that no fault of the outside ends
+pub answered_meets : (outcomes : Outcomes) (bytes left : List ℕ) (out out' : Option (List ℕ)) (status : Status)
+    → (IsDefined status → (text : List ℕ) × outcomes.answer bytes status text × Appends out out' text)
+    → status ≢ ReadFault → status ≢ WriteFault → Meets outcomes bytes left out out' status
+answered_meets outcomes bytes left out out' status right read write =
+    record { answer = right; read_fault = λ e. absurd (read e); write_fault = λ e. absurd (write e) }
+
+-- of one that ends before its output
+pub meets_nothing : (outcomes : Outcomes) (bytes left : List ℕ) (out : Option (List ℕ)) (status : Status)
+    → (IsDefined status → outcomes.answer bytes status []) → status ≢ ReadFault → status ≢ WriteFault →
+    Meets outcomes bytes left out out status
+meets_nothing outcomes bytes left out status right read write =
+    answered_meets outcomes bytes left out out status (λ d. ([], right d, Appends-nil out)) read write
+
+-- of one whose read failed
+pub broken_meets : (outcomes : Outcomes) (bytes left : List ℕ) (out out' : Option (List ℕ))
+    → (read text : List ℕ) × (bytes ≡ read ++ left) × outcomes.broken read (left ≡ []) text × Appends out out' text
+    → Meets outcomes bytes left out out' ReadFault
+broken_meets outcomes bytes left out out' found =
+    record { answer = λ d. absurd (d.read refl); read_fault = λ _. found; write_fault = λ e. absurd (cc) }
+
+-- of one whose write failed, after all that is not left was used
+pub cut_meets : (outcomes : Outcomes) (read left text : List ℕ) (out out' : Option (List ℕ))
+    → outcomes.cut read left text → AppendsPrefix out out' text
+    → Meets outcomes (read ++ left) left out out' WriteFault
+cut_meets outcomes read left text out out' right wrote = record {
+  answer = λ d. absurd (d.write refl);
+  read_fault = λ e. absurd (cc);
+  write_fault = λ _. (read, text, refl, right, wrote);
+}
+
+-- nothing was read
+pub unread_meets : (outcomes : Outcomes) (before out out' : Option (List ℕ)) (status : Status)
+    → ((bytes : List ℕ) → Meets outcomes bytes bytes out out' status)
+    → SourceMeets outcomes before before out out' status
+unread_meets outcomes before out out' status p =
+    record { read = []; consumed = Consumes-nil before; meets = λ left tells. p left }
+
+-- want of memory
+pub told_nothing : (outcomes : Outcomes) (before after out : Option (List ℕ)) (read : List ℕ)
+    → Consumes before after read
+    → SourceMeets outcomes before after out out NoMemory
+told_nothing outcomes before after out read consumed = record {
+  read = read;
+  consumed = consumed;
+  meets = λ left tells. meets_nothing outcomes (read ++ left) left out NoMemory (λ d. absurd (d.memory refl)) (λ e. cc) (λ e. cc);
+}
+
+pub unread_nothing : (outcomes : Outcomes) (before out : Option (List ℕ))
+    → SourceMeets outcomes before before out out NoMemory
+unread_nothing outcomes before out = told_nothing outcomes before before out [] (Consumes-nil before)

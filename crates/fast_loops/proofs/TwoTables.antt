@@ -1,8 +1,0 @@
-pub mod Cutting
-pub mod Law
-pub mod Listed
-pub mod Products
-pub mod Programs
-pub mod Pushed
-pub mod Registers
-pub mod Within

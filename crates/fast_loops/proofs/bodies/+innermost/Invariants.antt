@@ -1,6 +1,0 @@
-use Rattle.icode.specs.Plain.{plain_body}
-use Rattle.fast_loops.specs.View.{loops_in}
-use Rattle.fast_loops.proofs.bodies.+innermost.Given as goal
-
-abbrev pub decreases-innermost : goal.decreases-innermost
-decreases-innermost l = loops_in (plain_body l.body.now)

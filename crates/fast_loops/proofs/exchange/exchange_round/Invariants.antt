@@ -1,7 +1,0 @@
-use Rattle.icode.specs.Plain.{plain_stmt}
-use Rattle.fast_loops.specs.View.{exchanged_stmt}
-use Rattle.fast_loops.proofs.Items.{AreChanged}
-use Rattle.fast_loops.proofs.exchange.exchange_round.Given as goal
-
-abbrev pub invariant-loop-stmt : goal.invariant-loop-stmt
-invariant-loop-stmt l = AreChanged plain_stmt (exchanged_stmt l.depth) l.stmt-index l.fn.round l.round

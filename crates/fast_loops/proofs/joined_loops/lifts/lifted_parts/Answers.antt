@@ -1,8 +1,0 @@
-use Rattle.std.proofs.Common.{arith}
-use Rattle.fast_loops.proofs.JoinedLoops.Seen.{parts-pushed}
-use Rattle.fast_loops.proofs.joined_loops.lifts.lifted_parts.Goals as goal
-
-pub returns : goal.returns
-returns c =
-    parts-pushed c.args.depth c.loop-part.part-index c.args.parts.now c.loop-part.made.items
-    (omega (arith, c.loop-part-test.false)) c.loop-part.invariant

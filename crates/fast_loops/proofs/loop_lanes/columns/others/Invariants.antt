@@ -1,9 +1,0 @@
-use Rattle.std.proofs.Common.{◌≡◌, ◌++◌, drop}
-use Rattle.icode.specs.Plain.{plain_body}
-use Rattle.fast_loops.specs.LoopLanes.Rounds.{ops_in, others}
-use Rattle.fast_loops.specs.LoopLanes.View.{plain_ops}
-use Rattle.fast_loops.proofs.loop_lanes.columns.others.Given as goal
-
-abbrev pub invariant-loop-stmt : goal.invariant-loop-stmt
-invariant-loop-stmt l =
-    plain_ops l.ops.items ++ others (ops_in (plain_body (drop l.stmt-index l.round))) ≡ others (ops_in (plain_body l.round))

@@ -1,9 +1,0 @@
-use Rattle.std.proofs.Common.{◌≡◌, ◌*◌, flat_map}
-use Rattle.std.specs.List.{range_with_len}
-use Rattle.fast_loops.specs.LoopLanes.View.{plain_ops, load_tile_of}
-use Rattle.fast_loops.proofs.loop_lanes.loads.load_tiles.Given as goal
-
-abbrev pub invariant-loop-tile : goal.invariant-loop-tile
-invariant-loop-tile l =
-    plain_ops l.ops.items
-    ≡ flat_map (λ g. load_tile_of l.tiles l.register (g * l.tiles.group.lanes)) (range_with_len 0 l.tile)

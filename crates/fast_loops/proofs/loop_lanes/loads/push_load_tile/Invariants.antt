@@ -1,9 +1,0 @@
-use Rattle.std.proofs.Common.{◌≡◌, ◌++◌, map}
-use Rattle.std.specs.List.{range_with_len}
-use Rattle.fast_loops.specs.LoopLanes.View.{plain_ops, load_of}
-use Rattle.fast_loops.proofs.loop_lanes.loads.push_load_tile.Given as goal
-
-abbrev pub invariant-loop-lane : goal.invariant-loop-lane
-invariant-loop-lane l =
-    plain_ops l.ops.items
-    ≡ plain_ops l.fn.ops.items ++ map (load_of l.tiles l.register l.word) (range_with_len 0 l.lane)

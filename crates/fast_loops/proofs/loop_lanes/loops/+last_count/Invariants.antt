@@ -1,5 +1,0 @@
-use Rattle.std.proofs.Common.{length}
-use Rattle.fast_loops.proofs.loop_lanes.loops.+last_count.Given as goal
-
-abbrev pub decreases-last_count : goal.decreases-last_count
-decreases-last_count l = length l.counts.now

@@ -1,6 +1,0 @@
-use Rattle.icode.specs.Plain.{plain_body}
-use Rattle.fast_loops.specs.View.{loops_in}
-use Rattle.fast_loops.proofs.loop_lanes.loops.+push_counts.Given as goal
-
-abbrev pub decreases-push_counts : goal.decreases-push_counts
-decreases-push_counts l = loops_in (plain_body l.body.now)

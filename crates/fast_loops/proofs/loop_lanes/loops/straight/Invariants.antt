@@ -1,8 +1,0 @@
-use Rattle.std.proofs.Common.{◌≡◌, ◌++◌, map, drop}
-use Rattle.icode.specs.Plain.{plain_stmt, Do}
-use Rattle.fast_loops.specs.LoopLanes.View.{plain_ops}
-use Rattle.fast_loops.proofs.loop_lanes.loops.straight.Given as goal
-
-abbrev pub invariant-loop-op : goal.invariant-loop-op
-invariant-loop-op l =
-    map plain_stmt l.stmts.items ++ map Do (plain_ops (drop l.op-index l.ops)) ≡ map Do (plain_ops l.ops)

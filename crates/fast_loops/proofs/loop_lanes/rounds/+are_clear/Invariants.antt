@@ -1,5 +1,0 @@
-use Rattle.std.proofs.Common.{length}
-use Rattle.fast_loops.proofs.loop_lanes.rounds.+are_clear.Given as goal
-
-abbrev pub decreases-are_clear : goal.decreases-are_clear
-decreases-are_clear l = length l.constants.now

@@ -1,5 +1,0 @@
-use Rattle.std.proofs.Common.{length}
-use Rattle.fast_loops.proofs.loop_lanes.rounds.+widen_parts.Given as goal
-
-abbrev pub decreases-widen_parts : goal.decreases-widen_parts
-decreases-widen_parts l = length l.parts.now

@@ -1,7 +1,0 @@
-use Rattle.std.proofs.Common.{◌≡◌, drop}
-use Rattle.icode.specs.Plain.{plain_body}
-use Rattle.fast_loops.specs.Interchange.{are_nests}
-use Rattle.fast_loops.proofs.loops.are_nests.Given as goal
-
-abbrev pub invariant-loop-stmt : goal.invariant-loop-stmt
-invariant-loop-stmt l = are_nests l.lanes (plain_body (drop l.stmt-index l.body)) ≡ are_nests l.lanes (plain_body l.body)

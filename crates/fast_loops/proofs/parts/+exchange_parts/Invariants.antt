@@ -1,5 +1,0 @@
-use Rattle.std.proofs.Common.{length}
-use Rattle.fast_loops.proofs.parts.+exchange_parts.Given as goal
-
-abbrev pub decreases-exchange_parts : goal.decreases-exchange_parts
-decreases-exchange_parts l = length l.parts.now

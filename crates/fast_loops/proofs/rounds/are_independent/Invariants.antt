@@ -1,7 +1,0 @@
-use Rattle.std.proofs.Common.{◌≡◌, drop}
-use Rattle.icode.specs.Plain.{plain_body}
-use Rattle.fast_loops.specs.Rounds.{first_store}
-use Rattle.fast_loops.proofs.rounds.are_independent.Given as goal
-
-abbrev pub invariant-loop-stmt : goal.invariant-loop-stmt
-invariant-loop-stmt l = first_store (plain_body (drop l.stmt-index l.round)) ≡ first_store (plain_body l.round)

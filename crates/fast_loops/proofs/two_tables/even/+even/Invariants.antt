@@ -1,7 +1,0 @@
-use Rattle.std.proofs.Common.{◌≡◌, drop}
-use Rattle.icode.specs.Plain.{plain_body}
-use Rattle.fast_loops.specs.TwoTables.TwoTables.{is_body_even}
-use Rattle.fast_loops.proofs.two_tables.even.+even.Given as goal
-
-abbrev pub invariant-is_body_even-loop-stmt : goal.invariant-is_body_even-loop-stmt
-invariant-is_body_even-loop-stmt l = is_body_even l.lanes l.table (plain_body (drop l.stmt-index l.body)) ≡ is_body_even l.lanes l.table (plain_body l.body)

@@ -1,8 +1,0 @@
-use Rattle.std.proofs.Common.{◌≡◌, drop}
-use Rattle.std.specs.List.{list_all}
-use Rattle.icode.specs.Plain.{plain_phases}
-use Rattle.fast_loops.specs.TwoTables.TwoTables.{is_body_even}
-use Rattle.fast_loops.proofs.two_tables.even.are_phases_even.Given as goal
-
-abbrev pub invariant-loop-body : goal.invariant-loop-body
-invariant-loop-body l = list_all (is_body_even l.lanes l.table) (plain_phases (drop l.body-index l.phases)) ≡ list_all (is_body_even l.lanes l.table) (plain_phases l.phases)

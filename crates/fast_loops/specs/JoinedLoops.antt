@@ -1,3 +1,0 @@
-pub mod JoinedLoops
-pub mod View
-pub mod Laws

@@ -1,5 +1,0 @@
-pub mod Factors
-pub mod Places
-pub mod TwoTables
-pub mod View
-pub mod Laws

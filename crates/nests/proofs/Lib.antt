@@ -1,0 +1,15 @@
+pub mod Acts
+pub mod Apart
+pub mod Bools
+pub mod Counts
+pub mod Grouped
+pub mod InOrder
+pub mod InPlace
+pub mod Items
+pub mod Limited
+pub mod Linear
+pub mod Listed
+pub mod Members
+pub mod Rows
+pub mod Straight
+pub mod Swaps

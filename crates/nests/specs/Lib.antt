@@ -1,0 +1,5 @@
+pub mod InPlace
+pub mod Nests
+pub mod Places
+pub mod Rounds
+pub mod View

@@ -1,4 +1,0 @@
-use Rattle.request_text.proofs.generator.+stride_of.Given as goal
-
-abbrev pub decreases-stride_of : goal.decreases-stride_of
-decreases-stride_of l = l.count

@@ -1,8 +1,0 @@
-use Rattle.std.proofs.Common.{◌≡◌, ◌-◌}
-use Rattle.grammar.specs.Reading.{many_at}
-use Rattle.grammar.proofs.Loop.{in_front}
-use Rattle.request_text.specs.MixReading.{next_event_at, events_at}
-use Rattle.request_text.proofs.mix.events.Given as goal
-
-abbrev pub invariant-loop : goal.invariant-loop
-invariant-loop l = in_front l.events.items (many_at (l.count - l.counter) next_event_at l.cursor) ≡ events_at l.count l.fn.cursor

@@ -1,0 +1,4 @@
+pub mod Turns
+pub mod ScheduleWord
+pub mod Strides
+pub mod MixWord

@@ -1,0 +1,5 @@
+pub mod Factored
+pub mod Factors
+pub mod Laws
+pub mod Places
+pub mod View
