@@ -1,5 +1,5 @@
 -- With store buffers, too, runs among leftovers end as one processor after another does.
-use Rattle.std.proofs.Common.{◌≡◌, ℕ, ◌+◌, ◌-◌, ◌<◌, ◌≤◌, ◌++◌, List, [], ◌∷◌, Bool, true, false, cond, length, Option}
+use Rattle.std.proofs.Common.{◌≡◌, ℕ, ◌-◌, ◌<◌, ◌≤◌, ◌++◌, List, [], ◌∷◌, Bool, true, false, cond, length, Option}
 use Rattle.std.proofs.Common.{Some, None, refl, sym, ap, ◌∙◌, subst, arith, ⊎_elim}
 use Rattle.std.specs.Prelude.{slice_index}
 use Rattle.std.proofs.lemmas.Bool.{cases_eq}
@@ -9,7 +9,7 @@ use Rattle.icode.specs.declared.event.Event.{Event}
 use Rattle.icode.specs.declared.event.Event.TheVariants.{Turn, Drain}
 use Rattle.icode.specs.Buffers.{Waiting, Buffered, queue_of, some_wait, none_waiting, buffered_moved_on}
 use Rattle.icode.specs.Buffers.{buffered_acted}
-use Rattle.icode.specs.Buffers.{buffered_step, buffered_start, buffered_turn_with, written, drain_with, IsBusy}
+use Rattle.icode.specs.Buffers.{buffered_step, buffered_turn_with, written, drain_with, IsBusy}
 use Rattle.icode.specs.BuffersAmong.{buffered_step_among, buffered_run_among, buffered_among, HasEnded}
 use Rattle.icode.specs.BuffersAmong.{BuffersAmongInOrder, FreshBuffersIgnoreLeftovers}
 use Rattle.icode.specs.Leftovers.{Leftovers, phases_among, start_among, with_files}

@@ -35,7 +35,8 @@ BuffersAmongInOrder =
     HasEnded code (buffered_among code left x events) →
     (buffered_among code left x events).state.memory ≡ phases_among code left (length code.lists) 0 (x ++ left.words)
 
--- where a code is fresh and apart, such a run among any leftovers leaves what a run without buffers leaves from the start
+-- where a code is fresh and apart, such a run among any leftovers leaves what a run without buffers leaves from the
+-- start
 abbrev pub FreshBuffersIgnoreLeftovers : Type 0
 FreshBuffersIgnoreLeftovers =
     (code : Code) (left : Leftovers) → IsCode code → HaveFactors code → IsFresh code →
