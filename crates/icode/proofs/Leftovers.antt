@@ -112,11 +112,11 @@ module _ (code : Code) (is : IsCode code) (apart : (phase : ℕ) → IsApart cod
       (cases_Bool (is_open code phase (none_done code)))
 
   -- the phase began with `base` in memory, and the phases from this one on lead from there to the result
-  record IsOnTheWay (result : List ℕ) (s : State) : Type 0 where
-    base : List ℕ
-    follows : IsFollowed code s.phase base (left.files s.phase) s.memory s.registers s.done
-    within : s.phase ≤ length code.lists
-    leads : phases_among code left (length code.lists - s.phase) s.phase base ≡ result
+  pub record IsOnTheWay (result : List ℕ) (s : State) : Type 0 where
+    pub base : List ℕ
+    pub follows : IsFollowed code s.phase base (left.files s.phase) s.memory s.registers s.done
+    pub within : s.phase ≤ length code.lists
+    pub leads : phases_among code left (length code.lists - s.phase) s.phase base ≡ result
 
   next_on_the_way : (result : List ℕ) (s : State) → s.phase < length code.lists → is_open code s.phase s.done ≡ false →
       IsOnTheWay result s → IsOnTheWay result (with_files left s.phase (next_state code s))
@@ -142,6 +142,18 @@ module _ (code : Code) (is : IsCode code) (apart : (phase : ℕ) → IsApart cod
             ∙ (ap (λ k. phases_among code left k s.phase g.base) (sym more) ∙ g.leads)));
       })
 
+  pub moved_on_the_way : (result : List ℕ) (s : State) → s.phase < length code.lists → IsOnTheWay result s →
+      IsOnTheWay result (with_files left s.phase (moved_on code s))
+  moved_on_the_way result s lt g =
+      ⊎_elim
+      (λ (still : is_open code s.phase s.done ≡ true).
+      subst (λ (u : State). IsOnTheWay result (with_files left s.phase u)) (sym (moved_on-open code is s still))
+      (subst (IsOnTheWay result) (sym (filled_same code is left s.phase s refl)) g))
+      (λ (over : is_open code s.phase s.done ≡ false).
+      subst (λ (u : State). IsOnTheWay result (with_files left s.phase u)) (sym (moved_on-closed code is s over))
+      (next_on_the_way result s lt over g))
+      (cases_Bool (is_open code s.phase s.done))
+
   turn_on_the_way : (result : List ℕ) (s : State) (q : ℕ) → IsOnTheWay result s →
       IsOnTheWay result (turn_among code left s q)
   turn_on_the_way result s q g = with_action (next_action code s q) refl
@@ -151,22 +163,13 @@ module _ (code : Code) (is : IsCode code) (apart : (phase : ℕ) → IsApart cod
       with_action None e = subst (IsOnTheWay result) (sym (filled_same code is left s.phase s refl)) g
       with_action (Some a) e =
           let h = has_action code is s.phase q (slice_index s.done q) a e in
-          let t : State = acted code q a s in
-          let here : IsOnTheWay result t =
-          record {
+          moved_on_the_way result (acted code q a s) h.1
+          (record {
             base = g.base;
             within = g.within;
             leads = g.leads;
             follows = IsFollowed-acted code s.phase g.base (left.files s.phase) s.memory s.registers s.done q a (apart s.phase) h.0 e g.follows;
-          } in
-          ⊎_elim
-          (λ (still : is_open code t.phase t.done ≡ true).
-          subst (λ (u : State). IsOnTheWay result (with_files left s.phase u)) (sym (moved_on-open code is t still))
-          (subst (IsOnTheWay result) (sym (filled_same code is left s.phase t refl)) here))
-          (λ (over : is_open code t.phase t.done ≡ false).
-          subst (λ (u : State). IsOnTheWay result (with_files left s.phase u)) (sym (moved_on-closed code is t over))
-          (next_on_the_way result t h.1 over here))
-          (cases_Bool (is_open code t.phase t.done))
+          })
 
   run_on_the_way : (result : List ℕ) (turns : List ℕ) (s : State) → IsOnTheWay result s →
       IsOnTheWay result (run_among code left s turns)
@@ -174,13 +177,13 @@ module _ (code : Code) (is : IsCode code) (apart : (phase : ℕ) → IsApart cod
   run_on_the_way result (q ∷ turns) s g = run_on_the_way result turns (turn_among code left s q) (turn_on_the_way result s q g)
 
   -- where it ends
-  at_end : (result : List ℕ) (s : State) → length code.lists ≤ s.phase → IsOnTheWay result s → s.memory ≡ result
+  pub at_end : (result : List ℕ) (s : State) → length code.lists ≤ s.phase → IsOnTheWay result s → s.memory ≡ result
   at_end result s ge g =
       let none : length code.lists - s.phase ≡ 0 = omega arith in
       same_memory code s.phase g.base (left.files s.phase) s.memory g.base s.registers (left.files s.phase) s.done (none_done code) is (past_over code s.phase s.done ge) (past_over code s.phase (none_done code) ge) g.follows (followed_at_first code s.phase g.base (left.files s.phase) (files s.phase))
       ∙ (ap (λ k. phases_among code left k s.phase g.base) (sym none) ∙ g.leads)
 
-  starts_on_the_way : (x : List ℕ) →
+  pub starts_on_the_way : (x : List ℕ) →
       IsOnTheWay (phases_among code left (length code.lists) 0 (x ++ left.words)) (start_among code left x)
   starts_on_the_way x =
       let memory : List ℕ = x ++ left.words in
