@@ -153,6 +153,7 @@ by_fast_request() {
   fi
   [ "$modulus" -ge $((1 << 51)) ] || wide=52
   functions "$request" --words "$wide"
+  says 'any words' "$work/first.h"
   linked "functions of $request" gcc -O2
   linked "functions of $request" clang -O3 -march=native
   if [ "$size" -le 256 ]; then

@@ -1,4 +1,5 @@
 // The C text of a program on words, in vectors of GCC and Clang.
+mod first_values;
 mod form;
 mod front;
 mod function;

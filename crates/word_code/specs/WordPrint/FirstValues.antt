@@ -1,0 +1,15 @@
+-- The comment that says what arrays have to hold where a run begins.
+use Rattle.std.specs.Prelude.{ℕ, Bool, true, false, List, ◌++◌, codes}
+
+-- any words, of a program that reads nothing that is left over; else 0, as registers do where a phase begins
+abbrev pub first_values_text : List ℕ → Bool → List ℕ
+first_values_text arrays true = codes "/* " ++ arrays ++ codes ": any words before the first phase. */\n"
+first_values_text arrays false =
+    codes "/* " ++ arrays ++ codes ": 0 before the first phase, as each register is before each phase. */\n"
+
+-- the arrays of a text, and those of a function
+abbrev pub own_arrays_text : List ℕ
+own_arrays_text = codes "Y, A, B and the rest of X"
+
+abbrev pub callers_arrays_text : List ℕ
+callers_arrays_text = codes "out, work and the rest of in"
