@@ -21,7 +21,7 @@ use Rattle.listing_text.specs.Texts.{is_listing}
 use Rattle.listing_text.proofs.ListingReads.{listing_judges}
 use Rattle.word_code.specs.declared.choose.WordSize.{WordSize}
 use Rattle.word_code.specs.Choice.{allows}
-use Rattle.word_code.specs.WordPrint.TextForm.{TextForm}
+use Rattle.fast_text.specs.TextForm.{TextForm}
 use Rattle.fast_main.specs.declared.status.Status.{Status}
 use Rattle.fast_main.specs.declared.status.Status.TheVariants.{ListingSyntax, Success, TooLong, Usage, WideModulus}
 use Rattle.fast_main.specs.FastWords.Asked.{Asked, IsLaneCount, asked, form_in, lanes_in, lanes_named, size_in}

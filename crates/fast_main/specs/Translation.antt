@@ -20,7 +20,7 @@ use Rattle.word_code.specs.Choice.{fast_words}
 use Rattle.word_code.specs.FreshWords.{word_results_among}
 use Rattle.word_code.specs.WordMachine.{under, word_results}
 use Rattle.word_code.specs.WordProgram.{PlainWordProgram, word_code}
-use Rattle.word_code.specs.WordPrint.WordText.{words_text}
+use Rattle.fast_text.specs.WordText.{words_text}
 
 -- the program on several lanes with its loops joined, if it can be laned so
 abbrev pub laned_if_joined : ℕ → PlainProgram → PlainProgram

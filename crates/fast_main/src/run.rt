@@ -20,13 +20,14 @@ use crate::rows::write_note;
 use crate::words::bits_of;
 use code_check::{is_fresh, verify};
 use data_stream::read_part;
+use fast_text::print_words;
 use icode::program::Program;
 use io_edge::{Feed, Sink, Source, write_all};
 use listing_text::read_listing;
 use memory::NoMemory;
 use std::alloc::Global;
 use word_code::choose::make_fast;
-use word_code::{print_words, work_in_place};
+use word_code::work_in_place;
 
 /// How many bytes a listing has at most.
 pub const LISTING_LIMIT: u64 = 1 << 26;

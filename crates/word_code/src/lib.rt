@@ -1,4 +1,4 @@
-//! Loop code on words: lazy residues, products by known factors, passes in place, and its C text.
+//! Loop code on words: lazy residues, products by known factors, and passes in place.
 #![tactic(auto)]
 
 pub mod choose;
@@ -6,11 +6,9 @@ mod in_place;
 pub mod laws;
 mod needs;
 mod note;
-mod program;
+pub mod program;
 mod quicken;
 mod settle;
 mod single;
-mod word_print;
 
 pub use in_place::work_in_place;
-pub use word_print::{Form, print_words};

@@ -1,10 +1,10 @@
 // Which text the words ask for.
 ghost use Rattle.std.specs.Prelude.{◌≡◌, option_map};
 ghost use Rattle.std.specs.List.{list_all};
-ghost use Rattle.word_code.specs.WordPrint.TextForm.{text_form};
+ghost use Rattle.fast_text.specs.TextForm.{text_form};
 ghost use Rattle.fast_main.specs.FastWords.Asked.{is_digit, is_letter, is_name_byte, begins_with_digit, is_name, named_form, form_by};
 
-use word_code::Form;
+use fast_text::Form;
 
 fn is_digit(byte: u8) -> bool
     ensures { result ≡ is_digit byte }
