@@ -253,6 +253,7 @@ add r1 r0 r1
 st A[0] r1
 st Y[0] r1
 st Y[1] r0
+end
 END
   by_listing 0 'a listing with leftovers'
 }
