@@ -149,6 +149,7 @@ by_fast_request() {
   fi
   [ "$modulus" -ge $((1 << 51)) ] || wide=52
   functions "$request" --words "$wide"
+  says 'any words' "$work/first.h"
   linked "functions of $request" gcc -O2
   linked "functions of $request" clang -O3 -march=native
   if [ "$size" -le 256 ]; then
@@ -248,6 +249,7 @@ add r1 r0 r1
 st A[0] r1
 st Y[0] r1
 st Y[1] r0
+end
 END
   by_listing 0 'a listing with leftovers'
 }

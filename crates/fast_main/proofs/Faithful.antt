@@ -9,6 +9,7 @@ use Rattle.icode.specs.Limits.{IsWithinLimits}
 use Rattle.icode.specs.Machine.{IsApart, results}
 use Rattle.icode.specs.Plain.{PlainBody, PlainProgram}
 use Rattle.icode.specs.Program.{plain_program, code_of, Fits}
+use Rattle.code_check.proofs.MarksComplete.{marks_decide}
 use Rattle.word_code.specs.InPlace.InPlace.{in_place}
 use Rattle.word_code.proofs.Allowed.{lazy_for}
 use Rattle.word_code.proofs.FreshWords.{fresh_words_ignore_leftovers}
@@ -224,12 +225,15 @@ sound_words size lanes p count limits fits apart allowed =
     ∙ quickened_is_same z q law.fits lazy some line x turns
     (subst (λ (m : ℕ). All (λ v. v < m) x) (sym law.modulus) low)
     ∙ law.same x turns orders in
+    let fresh = marks_decide q line law.fits law.apart in
     record {
       fits = in_place_fits q (fast_words size q) (quickened_fits z q law.fits lazy some);
       apart = in_place_apart z q law.apart;
       faithful = faithful;
-      again = λ fresh left x turns orders are long low.
-          fresh_words_ignore_leftovers (words_for size lanes p) left (in_place_fresh z q law.fits line fresh) are x turns
+      fresh = fresh;
+      again = λ told left x turns orders are long low.
+          fresh_words_ignore_leftovers (words_for size lanes p) left (in_place_fresh z q law.fits line (fresh.0 told))
+          are x turns
           (long ∙ sym law.size)
           ∙ faithful x turns orders (le_of_eq (sym long)) low;
     }

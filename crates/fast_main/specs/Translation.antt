@@ -1,10 +1,11 @@
 -- The C text of a program, and what the words that it spells leave.
-use Rattle.std.specs.Prelude.{◌≡◌, ℕ, ◌==◌, ◌<◌, ◌≤◌, nat_lt, Bool, true, false, List, length, All, if◌then◌else◌}
+use Rattle.std.specs.Prelude.{◌≡◌, ◌↔◌, ℕ, ◌==◌, ◌<◌, ◌≤◌, nat_lt, IsTrue, Bool, true, false, List, length, All, if◌then◌else◌}
 use Rattle.icode.specs.Actions.{plain_code}
 use Rattle.icode.specs.Fresh.{IsFresh}
 use Rattle.icode.specs.Leftovers.{AreLeftovers, Leftovers}
 use Rattle.icode.specs.Machine.{IsApart, results}
 use Rattle.icode.specs.Plain.{PlainProgram}
+use Rattle.code_check.specs.Marks.{is_fresh}
 use Rattle.fast_main.specs.FastWords.Asked.{Asked}
 use Rattle.word_code.specs.InPlace.InPlace.{in_place}
 use Rattle.fused_loops.specs.Fused.{fused, large_size}
@@ -49,13 +50,18 @@ abbrev pub prepared : WordSize → ℕ → PlainProgram → PlainProgram
 prepared size lanes p =
     let q = in_blocks lanes p in if has_cheap_products size q.modulus then factored large_table q else q
 
--- the program on words of this size that is chosen for that, where passes work in place
+-- it reads nothing that is left over, as a walk over its actions finds
+abbrev pub takes_leftovers : WordSize → ℕ → PlainProgram → Bool
+takes_leftovers size lanes p = is_fresh (prepared size lanes p)
+
+-- the program on words of this size that is chosen for the prepared one, where passes work in place
 abbrev pub words_for : WordSize → ℕ → PlainProgram → PlainWordProgram
 words_for size lanes p = let q = prepared size lanes p in in_place q (fast_words size q)
 
 -- and the text of it that is asked for
 abbrev pub fast_text : Asked → PlainProgram → List ℕ
-fast_text asked p = words_text asked.form (words_for asked.size asked.lanes p)
+fast_text asked p =
+    words_text asked.form (takes_leftovers asked.size asked.lanes p) (words_for asked.size asked.lanes p)
 
 -- for every vector of at least as many residues as its size, and every order
 -- of turns, the program on words leaves in Y the words that the program leaves
@@ -72,11 +78,12 @@ IsFaithfulAmong size lanes p =
     length x ≡ p.size → All (λ v. v < p.modulus) x →
     word_results_among (word_code (words_for size lanes p)) left x turns ≡ results (plain_code p) x orders
 
--- each place and each register of the program on words is there and its numbers are words, no processor touches a
--- line that another writes in the phase, and it leaves what the program leaves, among leftovers too where
--- the prepared program is fresh
+-- Each place and each register of the program on words is there and its numbers are words, no processor touches a
+-- line that another writes in the phase, and it leaves what the program leaves. The text says that arrays may hold any
+-- words exactly where the prepared program is fresh, and then it leaves that among any leftovers
 pub record AreSoundWords (size : WordSize) (lanes : ℕ) (p : PlainProgram) : Type 0 where
   pub fits : WordsFit (words_for size lanes p)
   pub apart : (phase : ℕ) → IsApart (under (word_code (words_for size lanes p))) phase
   pub faithful : IsFaithful size lanes p
-  pub again : IsFresh (plain_code (prepared size lanes p)) → IsFaithfulAmong size lanes p
+  pub fresh : IsTrue (takes_leftovers size lanes p) ↔ IsFresh (plain_code (prepared size lanes p))
+  pub again : IsTrue (takes_leftovers size lanes p) → IsFaithfulAmong size lanes p

@@ -18,7 +18,7 @@ use crate::fast_words::{Options, options_of};
 use crate::prepare::prepare;
 use crate::rows::write_note;
 use crate::words::bits_of;
-use code_check::verify;
+use code_check::{is_fresh, verify};
 use data_stream::read_part;
 use fast_text::print_words;
 use icode::program::Program;
@@ -44,9 +44,10 @@ fn fast_text_of(alloc: Global, options: Options<'_>, program: Program) -> Result
         (λ _. AreSoundWords options.entry.size options.entry.lanes (plain_program program)) }
 {
     let program = prepare(alloc, options.size, options.lanes, program)?;
+    let fresh = is_fresh(alloc, &program)?;
     let words = make_fast(alloc, options.size, &program)?;
     let words = work_in_place(alloc, &program, words)?;
-    let text = print_words(alloc, options.form, &words)?;
+    let text = print_words(alloc, options.form, fresh, &words)?;
     Ok(text)
 }
 

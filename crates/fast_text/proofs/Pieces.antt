@@ -21,12 +21,12 @@ eight_pieces old a b c d e f g h = simp append_assoc
 pub pieces_between : (old a b c d : List ℕ) → (((old ++ a) ++ b) ++ c) ++ d ≡ old ++ (a ++ (b ++ c) ++ d)
 pieces_between old a b c d = simp append_assoc
 
--- three pieces from nothing, one after the other
-pub three_parts : (a b c start one two three : List ℕ) → start ≡ [] → one ≡ start ++ a → two ≡ one ++ b →
-    three ≡ two ++ c
-    → three ≡ a ++ b ++ c
-three_parts a b c start one two three nothing first second third =
-    third ∙ ap (λ o. o ++ c) (second ∙ ap (λ o. o ++ b) (first ∙ ap (λ o. o ++ a) nothing))
+-- four pieces from nothing, one after the other
+pub four_parts : (a b c d start one two three four : List ℕ) → start ≡ [] → one ≡ start ++ a → two ≡ one ++ b →
+    three ≡ two ++ c → four ≡ three ++ d → four ≡ a ++ b ++ c ++ d
+four_parts a b c d start one two three four nothing first second third fourth =
+    fourth ∙ ap (λ o. o ++ d) (third ∙ ap (λ o. o ++ c) (second ∙ ap (λ o. o ++ b) (first ∙ ap (λ o. o ++ a) nothing)))
+    ∙ four_pieces [] a b c d
 
 next_one : (text : ℕ → List ℕ) (count number : ℕ) → number < count →
     each_from text (count - number) number ≡ text number ++ each_from text (count - (number + 1)) (number + 1)

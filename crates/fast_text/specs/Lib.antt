@@ -1,5 +1,6 @@
 pub mod WordFront
 pub mod TextForm
 pub mod FunctionText
+pub mod FirstValues
 pub mod WordText
 pub mod WordNests

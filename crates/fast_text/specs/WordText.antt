@@ -1,6 +1,6 @@
 -- The C text of a program on words. Its functions and vectors are those of the first lines, its registers variables, which
 -- are 0 where a phase begins. It is meant for words of 32, 52 and 64 bits.
-use Rattle.std.specs.Prelude.{ℕ, zero, suc, ◌+◌, ◌==◌, List, [], ◌∷◌, ◌++◌, codes, decimal, flat_map, length, map}
+use Rattle.std.specs.Prelude.{ℕ, zero, suc, ◌+◌, ◌==◌, Bool, List, [], ◌∷◌, ◌++◌, codes, decimal, flat_map, length, map}
 use Rattle.std.specs.Prelude.{if◌then◌else◌}
 use Rattle.icode.specs.declared.program.Array.{Array}
 use Rattle.icode.specs.Machine.{whole_lines}
@@ -11,6 +11,7 @@ use Rattle.listing_text.specs.Numbers.{numbered_text}
 use Rattle.word_code.specs.declared.program.Reduction.{Reduction}
 use Rattle.word_code.specs.WordProgram.{Note, WordStmt, WordBody, PlainWordProgram, Loop, Do, NoStmts, AndStmts}
 use Rattle.fast_text.specs.WordFront.{functions_text, sizes_text, arrays_text}
+use Rattle.fast_text.specs.FirstValues.{first_values_text, own_arrays_text, callers_arrays_text}
 use Rattle.fast_text.specs.TextForm.{TextForm, with_arrays, named_function, named_header}
 use Rattle.fast_text.specs.FunctionText.{each_from, static_phase_text, parameters_text}
 use Rattle.fast_text.specs.FunctionText.{functions_to_link_text, capital, guard_text, lengths_text}
@@ -170,25 +171,29 @@ abbrev pub all_phases_text : List ℕ → List ℕ → PlainWordProgram → List
 all_phases_text before behind p = word_phases_text before behind p.frame.lanes p.frame.regs 0 p.phases
 
 -- arrays, and a function for each phase
-abbrev pub arrays_and_phases_text : PlainWordProgram → List ℕ
-arrays_and_phases_text p =
-    front_text p ++ arrays_text (words_of_array p) ++ all_phases_text (codes "void phase") (codes "(uint64_t q) {\n(void)q;\n") p
+abbrev pub arrays_and_phases_text : Bool → PlainWordProgram → List ℕ
+arrays_and_phases_text fresh p =
+    front_text p ++ first_values_text own_arrays_text fresh ++ arrays_text (words_of_array p)
+    ++ all_phases_text (codes "void phase") (codes "(uint64_t q) {\n(void)q;\n") p
 
 -- a function to link
-abbrev pub named_function_text : List ℕ → PlainWordProgram → List ℕ
-named_function_text name p =
+abbrev pub named_function_text : List ℕ → Bool → PlainWordProgram → List ℕ
+named_function_text name fresh p =
     front_text p ++ all_phases_text (static_phase_text name) parameters_text p
+    ++ first_values_text callers_arrays_text fresh
     ++ functions_to_link_text name (words_of_array p) p.frame.procs (length p.phases)
 
 -- and its header
-abbrev pub named_header_text : List ℕ → PlainWordProgram → List ℕ
-named_header_text name p =
+abbrev pub named_header_text : List ℕ → Bool → PlainWordProgram → List ℕ
+named_header_text name fresh p =
     let capitals = map capital name in
     word_header_text p ++ guard_text capitals ++ lengths_text capitals p.frame.size (words_of_array p)
     ++ counts_text capitals p.frame.modulus p.frame.procs (length p.phases)
+    ++ first_values_text callers_arrays_text fresh
     ++ linkage_text (asked_text capitals ++ declared_functions_text name (word_type_text (p.width.half == 65536)))
 
-abbrev pub words_text : TextForm → PlainWordProgram → List ℕ
-words_text with_arrays p = arrays_and_phases_text p
-words_text (named_function name) p = named_function_text name p
-words_text (named_header name) p = named_header_text name p
+-- of a program that may read what is left over, or that does not
+abbrev pub words_text : TextForm → Bool → PlainWordProgram → List ℕ
+words_text with_arrays fresh p = arrays_and_phases_text fresh p
+words_text (named_function name) fresh p = named_function_text name fresh p
+words_text (named_header name) fresh p = named_header_text name fresh p

@@ -1,6 +1,7 @@
 //! The C text of a program on words, in vectors of GCC and Clang.
 #![tactic(auto)]
 
+mod first_values;
 mod form;
 mod front;
 mod function;

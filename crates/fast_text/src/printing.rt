@@ -10,6 +10,7 @@ ghost use Rattle.fast_text.specs.FunctionText.{each_from};
 ghost use Rattle.fast_text.specs.TextForm.{text_form};
 ghost use Rattle.fast_text.specs.WordNests.{is_word_nest_within, are_word_nests_within, are_word_phases_within};
 
+use crate::first_values::{put_callers_first_values, put_own_first_values};
 use crate::form::Form;
 use crate::front::{put_arrays, put_functions, put_sizes};
 use crate::function::{put_functions_to_link, static_phase};
@@ -175,15 +176,16 @@ fn put_front(out: &mut Vec<u8>, program: &WordProgram) -> Result<(), AllocError>
 }
 
 // Arrays, and a function for each phase.
-fn print_arrays(alloc: Global, program: &WordProgram) -> Result<Vec<u8>, NoMemory>
+fn print_arrays(alloc: Global, fresh: bool, program: &WordProgram) -> Result<Vec<u8>, NoMemory>
     requires header { IsHeaderWithin program.now.size program.now.modulus program.now.procs
         program.now.line program.now.lanes program.now.regs }
     requires nests { IsTrue (are_word_phases_within (plain_word_phases program.now.phases.items)) }
     ensures { IfOk result
-        (λ text. text.items ≡ arrays_and_phases_text (plain_word_program program.now)) }
+        (λ text. text.items ≡ arrays_and_phases_text fresh (plain_word_program program.now)) }
 {
     let mut out = Vec::new(alloc);
     put_front(&mut out, program)?;
+    put_own_first_values(&mut out, fresh)?;
     put_arrays(&mut out, array_words(program.size, program.line))?;
     put_phases(
         &mut out,
@@ -195,12 +197,17 @@ fn print_arrays(alloc: Global, program: &WordProgram) -> Result<Vec<u8>, NoMemor
 }
 
 // A function to link.
-fn print_function(alloc: Global, name: &[u8], program: &WordProgram) -> Result<Vec<u8>, NoMemory>
+fn print_function(
+    alloc: Global,
+    name: &[u8],
+    fresh: bool,
+    program: &WordProgram,
+) -> Result<Vec<u8>, NoMemory>
     requires header { IsHeaderWithin program.now.size program.now.modulus program.now.procs
         program.now.line program.now.lanes program.now.regs }
     requires nests { IsTrue (are_word_phases_within (plain_word_phases program.now.phases.items)) }
     ensures { IfOk result
-        (λ text. text.items ≡ named_function_text name.now (plain_word_program program.now)) }
+        (λ text. text.items ≡ named_function_text name.now fresh (plain_word_program program.now)) }
 {
     let mut out = Vec::new(alloc);
     put_front(&mut out, program)?;
@@ -213,6 +220,7 @@ fn print_function(alloc: Global, name: &[u8], program: &WordProgram) -> Result<V
 ",
         program,
     )?;
+    put_callers_first_values(&mut out, fresh)?;
     let words = array_words(program.size, program.line);
     let phases = program.phases.len() as u64;
     put_functions_to_link(&mut out, name, words, program.procs, phases)?;
@@ -220,11 +228,16 @@ fn print_function(alloc: Global, name: &[u8], program: &WordProgram) -> Result<V
 }
 
 // The header of a function to link.
-fn print_header(alloc: Global, name: &[u8], program: &WordProgram) -> Result<Vec<u8>, NoMemory>
+fn print_header(
+    alloc: Global,
+    name: &[u8],
+    fresh: bool,
+    program: &WordProgram,
+) -> Result<Vec<u8>, NoMemory>
     requires header { IsHeaderWithin program.now.size program.now.modulus program.now.procs
         program.now.line program.now.lanes program.now.regs }
     ensures { IfOk result
-        (λ text. text.items ≡ named_header_text name.now (plain_word_program program.now)) }
+        (λ text. text.items ≡ named_header_text name.now fresh (plain_word_program program.now)) }
 {
     let mut out = Vec::new(alloc);
     let capitals = in_capitals(alloc, name)?;
@@ -234,25 +247,28 @@ fn print_header(alloc: Global, name: &[u8], program: &WordProgram) -> Result<Vec
     put_guard(&mut out, &capitals)?;
     put_lengths(&mut out, &capitals, program.size, words)?;
     put_counts(&mut out, &capitals, program.modulus, program.procs, phases)?;
+    put_callers_first_values(&mut out, fresh)?;
     put_linked(&mut out, &capitals, name, program.half == 65536)?;
     Ok(out)
 }
 
-/// The C text of a program on words, within the limits of programs on residues.
+/// The C text of a program on words, within the limits of programs on residues. It says what arrays have to hold where a
+/// run begins: any words, of a program that is fresh.
 pub fn print_words(
     alloc: Global,
     form: Form<'_>,
+    fresh: bool,
     program: &WordProgram,
 ) -> Result<Vec<u8>, NoMemory>
     requires header { IsHeaderWithin program.now.size program.now.modulus program.now.procs
         program.now.line program.now.lanes program.now.regs }
     requires nests { IsTrue (are_word_phases_within (plain_word_phases program.now.phases.items)) }
     ensures { IfOk result
-        (λ text. text.items ≡ words_text (text_form form.entry) (plain_word_program program.now)) }
+        (λ text. text.items ≡ words_text (text_form form.entry) fresh (plain_word_program program.now)) }
 {
     match form {
-        Form::Arrays => print_arrays(alloc, program),
-        Form::Function { name } => print_function(alloc, name.as_bytes(), program),
-        Form::Header { name } => print_header(alloc, name.as_bytes(), program),
+        Form::Arrays => print_arrays(alloc, fresh, program),
+        Form::Function { name } => print_function(alloc, name.as_bytes(), fresh, program),
+        Form::Header { name } => print_header(alloc, name.as_bytes(), fresh, program),
     }
 }

@@ -1,13 +1,12 @@
 -- The passes of a formula's term are ones of which a program can be made.
 use Rattle.std.proofs.Common.{◌≡◌, ℕ, zero, suc, ◌-◌, ◌*◌, ◌^◌, ◌<◌, ◌≤◌, true, List, [], ◌∷◌, ◌++◌, All, length, map}
 use Rattle.std.proofs.Common.{refl, sym, ap₂, arith, subst, Bool, Some, inl, inr, pow_mono, ◌+◌, ◌%◌, ap, ◌∙◌, mod-lt}
-use Rattle.std.proofs.Common.{slice_index, ◌&&◌, drop, slice_index_or, sum_by, append-nil}
+use Rattle.std.proofs.Common.{slice_index, ◌&&◌, drop, slice_index_or}
 use Rattle.std.specs.List.{list_all}
 use Rattle.std.proofs.Math.Nat.{mul-le-mul, mul-le-mul_left, mul-le-mul_right, pow-succ'}
 use Rattle.std.proofs.lemmas.Bool.{cases_lt}
 use Rattle.std.proofs.lemmas.List.Elements.{All-nil, All-cons, All-append}
 use Rattle.std.proofs.lemmas.Bool.Decides.{nat_tests}
-use Rattle.std.proofs.lemmas.List.Sums.{sum_by-append, sum_by-cons}
 use Rattle.matrix_meaning.specs.declared.Kind.TheVariants.{Dft, Wht, Idft}
 use Rattle.sigma_spl.specs.Shared.Running.{CanWork}
 use Rattle.sigma_spl.specs.Shared.Machine.{plain_machine, first_loop, loop_counts}
@@ -34,13 +33,9 @@ use Rattle.sigma_lower.specs.Terms.{one_more, halvings, hadamard_term, fourier_t
 use Rattle.sigma_lower.proofs.Compiling.{formulas_compile}
 use Rattle.sigma_lower.proofs.Lowers.{halvings-power, power-above, lowers}
 use Rattle.sigma_lower.proofs.Several.{term-several}
-use Rattle.generate.specs.FormulaPasses.Laws.{FormulasAreReady}
-use Rattle.loop_merge.proofs.JoinedCopies.Passes.{joined_are_plain, joined_mean, joined_cost}
-use Rattle.loop_merge.proofs.PlainPasses.{plain_are_ready, plain_on}
 use Rattle.sigma_spl.proofs.Tables.{tables-append}
-use Rattle.loop_merge.specs.JoinedCopies.Joined.{all_joined}
 use Rattle.matrix_meaning.specs.Kind.{IsPowerOfTwo}
-use Rattle.sigma_spl.specs.Shared.Costs.{work_cost, pass_cost}
+use Rattle.sigma_spl.specs.Shared.Costs.{work_cost}
 use Rattle.sigma_spl.specs.Shared.Owners.{most_actions}
 use Rattle.sigma_spl.specs.Limits.{AreWithin}
 use Rattle.sigma_spl.specs.Term.{PlainTerm, nest}
@@ -50,13 +45,10 @@ use Rattle.spl_ast.specs.Shape.{IsShaped}
 use Rattle.spl_ast.proofs.Vectors.{shaped_size, size_is_size}
 use Rattle.operators.specs.declared.tensor_paths.Tensor.TheVariants.{Blocks, Columns}
 use Rattle.matrix_meaning.proofs.Requests.{power_below}
-use Rattle.generate.specs.FormulaPasses.Computes.{FormulasCompute, formula_merged}
 use Rattle.sigma_lower.proofs.FormulaPasses.Costs.{leaf-root, operations-le, pass-loads-le}
 use Rattle.sigma_lower.proofs.FormulaPasses.Merging.{IsFormulaWork, IsAlike, HasDiagonal, AreMany, IsMade, AreMade}
 use Rattle.sigma_lower.proofs.FormulaPasses.Merging.{AllMade, IsFormulaTerm, passes-made}
 use Rattle.sigma_lower.proofs.FormulaPasses.Counted.{sums_in, makers_in, steps_in, passes-few}
-use Rattle.generate.proofs.Performed.{performed-counts}
-use Rattle.generate.proofs.Performed as performed
 
 -- ---- what is known of a nest of a formula's passes, with places within the limits, lets a program be made of it
 

@@ -1,4 +1,4 @@
-use Rattle.std.proofs.Common.{ap, ◌∙◌}
+use Rattle.std.proofs.Common.{ap, ap₂, ◌∙◌}
 use Rattle.icode.specs.Program.{plain_program}
 use Rattle.word_code.specs.WordProgram.{PlainWordProgram}
 use Rattle.word_code.specs.Choice.{laziness_for}
@@ -7,6 +7,7 @@ use Rattle.fast_text.specs.TextForm.{text_form}
 use Rattle.fast_text.specs.WordText.{words_text}
 use Rattle.fast_text.specs.WordNests.{are_word_phases_within}
 use Rattle.fast_text.proofs.Nests.{quickened_nests}
+use Rattle.code_check.specs.Marks.{is_fresh}
 use Rattle.code_check.proofs.Phases.{limits_of}
 use Rattle.fast_main.proofs.Faithful.{fits_from, allowed_from, words_from, sound_words}
 use Rattle.fast_main.proofs.Rerouted.{in_place_nests}
@@ -27,7 +28,7 @@ print_words-requires-clause-nests c =
 pub returns-clause-text : goal.returns-clause-text
 returns-clause-text c =
     c.in_ok-text.ensures
-    ∙ ap (words_text (text_form c.args.options.form))
+    ∙ ap₂ (words_text (text_form c.args.options.form)) (c.in_ok-fresh.ensures.marks ∙ ap is_fresh c.in_ok-program.ensures)
     (words_from c.args.options.size c.args.options.lanes c.args.program c.in_ok-program.program c.requires.lanes c.in_ok-program.ensures c.requires.fits c.requires.apart
     c.in_ok-words.words c.in_ok-words-2.words c.in_ok-words.ensures.made c.in_ok-words-2.ensures.made)
 
@@ -35,6 +36,12 @@ pub returns-clause-sound : goal.returns-clause-sound
 returns-clause-sound c =
     sound_words c.args.options.size c.args.options.lanes (plain_program c.args.program) c.requires.lanes
     (limits_of c.args.program) c.requires.fits c.requires.apart c.requires.allowed
+
+pub is_fresh-requires : goal.is_fresh-requires
+is_fresh-requires c =
+    record {
+      fits = fits_from c.args.options.size c.args.options.lanes c.args.program c.in_ok-program.program c.requires.lanes c.in_ok-program.ensures c.requires.fits c.requires.apart;
+    }
 
 pub make_fast-requires : goal.make_fast-requires
 make_fast-requires c =
