@@ -43,114 +43,165 @@ one_lane_text =
     ++ codes "INLINE vec reduced(vec a, word k) { vec d = a - k; return a < d ? a : d; }\n"
     ++ codes "INLINE void tile(vec *b) { (void)b; }\n"
 
--- a register as a vector of GCC and Clang
+-- a register of lanes in parts: what a register of the machine holds, or at most 16 bytes where none is known.
+-- P is how many words that is, and BY names an operation of the machine on it
+unfoldable pub part_text : List ℕ
+part_text =
+    codes "#elif (V == 2 || V == 4 || V == 8 || V == 16) && (HALF == 65536 || HALF == 67108864 || ROUGH)\n"
+    ++ codes "#if defined __AVX2__\n"
+    ++ codes "#include <immintrin.h>\n"
+    ++ codes "#elif defined __SSE4_1__\n"
+    ++ codes "#include <smmintrin.h>\n"
+    ++ codes "#elif defined __SSE2__\n"
+    ++ codes "#include <emmintrin.h>\n"
+    ++ codes "#endif\n"
+    ++ codes "#if HALF == 65536\n"
+    ++ codes "#define WORDS(bytes) ((bytes) / 4)\n"
+    ++ codes "#else\n"
+    ++ codes "#define WORDS(bytes) ((bytes) / 8)\n"
+    ++ codes "#endif\n"
+    ++ codes "#if defined __AVX512F__ && V >= WORDS(64)\n"
+    ++ codes "#define P WORDS(64)\n"
+    ++ codes "#define BITS(a) (__m512i)(a)\n"
+    ++ codes "#define BY(operation, ...) _mm512_##operation(__VA_ARGS__)\n"
+    ++ codes "#elif defined __AVX2__ && V >= WORDS(32)\n"
+    ++ codes "#define P WORDS(32)\n"
+    ++ codes "#define BITS(a) (__m256i)(a)\n"
+    ++ codes "#define BY(operation, ...) _mm256_##operation(__VA_ARGS__)\n"
+    ++ codes "#elif defined __SSE2__ && V >= WORDS(16)\n"
+    ++ codes "#define P WORDS(16)\n"
+    ++ codes "#define BITS(a) (__m128i)(a)\n"
+    ++ codes "#define BY(operation, ...) _mm_##operation(__VA_ARGS__)\n"
+    ++ codes "#else\n"
+    ++ codes "#define P (V < WORDS(16) ? V : WORDS(16))\n"
+    ++ codes "#endif\n"
+
+-- registers of such parts
 unfoldable pub vector_text : List ℕ
 vector_text =
-    codes "#elif (V == 2 || V == 4 || V == 8 || V == 16) && (HALF == 65536 || HALF == 67108864 || ROUGH)\n"
-    ++ codes "typedef word vec __attribute__((vector_size(sizeof(word) * V)));\n"
-    ++ codes "typedef word unaligned __attribute__((vector_size(sizeof(word) * V), aligned(sizeof(word)), may_alias));\n"
-    ++ codes "typedef uint64_t wide __attribute__((vector_size(sizeof(word) * V)));\n"
-    ++ codes "INLINE vec splat(word x) { return (vec){} + x; }\n"
-    ++ codes "INLINE vec load(const word *p) { return *(const unaligned *)p; }\n"
-    ++ codes "INLINE void store(word *p, vec a) { *(unaligned *)p = a; }\n"
-    ++ codes "INLINE vec add(vec a, vec b) { return a + b; }\n"
-    ++ codes "INLINE vec sub(vec a, vec b, word k) { return a + k - b; }\n"
-    ++ codes "INLINE vec neg(vec a, word k) { return k - a; }\n"
+    codes "typedef word part __attribute__((vector_size(sizeof(word) * P)));\n"
+    ++ codes "typedef word unaligned __attribute__((vector_size(sizeof(word) * P), aligned(sizeof(word)), may_alias));\n"
+    ++ codes "typedef uint64_t wide __attribute__((vector_size(sizeof(word) * P)));\n"
+    ++ codes "typedef struct { part p[V / P]; } vec;\n"
+    ++ codes "#define PARTS(e) vec r; for (int i = 0; i < V / P; i++) r.p[i] = (e); return r\n"
+    ++ codes "INLINE vec splat(word x) { PARTS((part){} + x); }\n"
+    ++ codes "INLINE vec load(const word *p) { PARTS(*(const unaligned *)(p + P * i)); }\n"
+    ++ codes "INLINE void store(word *p, vec a) { for (int i = 0; i < V / P; i++) *(unaligned *)(p + P * i) = a.p[i]; }\n"
+    ++ codes "INLINE vec add(vec a, vec b) { PARTS(a.p[i] + b.p[i]); }\n"
+    ++ codes "INLINE vec sub(vec a, vec b, word k) { PARTS(a.p[i] + k - b.p[i]); }\n"
+    ++ codes "INLINE vec neg(vec a, word k) { PARTS(k - a.p[i]); }\n"
 
--- the least of a and a - k in such registers. No word is twice its k or more, so where k is at most half of all words, the top
--- bit of a - k says which it is
+-- the lanes of two parts, picked as UPPER or LOWER says; both together exchange the lanes that are d apart
+unfoldable pub exchange_text : List ℕ
+exchange_text =
+    codes "#if P == 2\n"
+    ++ codes "#define EACH(f, d) f(d, 0), f(d, 1)\n"
+    ++ codes "#elif P == 4\n"
+    ++ codes "#define EACH(f, d) f(d, 0), f(d, 1), f(d, 2), f(d, 3)\n"
+    ++ codes "#elif P == 8\n"
+    ++ codes "#define EACH(f, d) f(d, 0), f(d, 1), f(d, 2), f(d, 3), f(d, 4), f(d, 5), f(d, 6), f(d, 7)\n"
+    ++ codes "#else\n"
+    ++ codes "#define EACH(f, d) f(d, 0), f(d, 1), f(d, 2), f(d, 3), f(d, 4), f(d, 5), f(d, 6), f(d, 7), EACH_LATER(f, d)\n"
+    ++ codes "#define EACH_LATER(f, d) f(d, 8), f(d, 9), f(d, 10), f(d, 11), f(d, 12), f(d, 13), f(d, 14), f(d, 15)\n"
+    ++ codes "#endif\n"
+    ++ codes "#define UPPER(d, l) ((l) & (d) ? P + (l) - (d) : (l))\n"
+    ++ codes "#define LOWER(d, l) ((l) & (d) ? P + (l) : (l) + (d))\n"
+    ++ codes "#define PICKED(a, b, f, d) __builtin_shufflevector(a, b, EACH(f, d))\n"
+
+-- the least of a and a - k. No word is twice its k or more, so where k is at most half of all words, the top bit of a - k says
+-- which it is
 unfoldable pub vector_reduced_text : List ℕ
 vector_reduced_text =
-    codes "#if defined __has_builtin\n"
-    ++ codes "#if __has_builtin(__builtin_elementwise_min) && (HALF == 65536 || defined __AVX512F__)\n"
+    codes "#if defined BITS && HALF == 65536 && defined __SSE4_1__\n"
+    ++ codes "#define MINIMUM(a, b) (part)BY(min_epu32, BITS(a), BITS(b))\n"
+    ++ codes "#elif defined BITS && HALF != 65536 && defined __AVX512F__ && (P == WORDS(64) || defined __AVX512VL__)\n"
+    ++ codes "#define MINIMUM(a, b) (part)BY(min_epu64, BITS(a), BITS(b))\n"
+    ++ codes "#elif !defined BITS && HALF == 65536 && defined __has_builtin\n"
+    ++ codes "#if __has_builtin(__builtin_elementwise_min)\n"
     ++ codes "#define MINIMUM __builtin_elementwise_min\n"
     ++ codes "#endif\n"
     ++ codes "#endif\n"
     ++ codes "#ifdef MINIMUM\n"
-    ++ codes "INLINE vec reduced(vec a, word k) { return MINIMUM(a, a - k); }\n"
+    ++ codes "INLINE part reduced_part(part a, word k) { return MINIMUM(a, a - k); }\n"
     ++ codes "#else\n"
     ++ codes "#define TOP_BIT ((word)1 << (8 * sizeof(word) - 1))\n"
-    ++ codes "INLINE vec reduced(vec a, word k) { vec d = a - k; return k > TOP_BIT ? a - ((vec)(a >= k) & k) : d + ((vec)((__typeof__(a < d))d < 0) & k); }\n"
+    ++ codes "INLINE part reduced_part(part a, word k) {\n"
+    ++ codes "part d = a - k;\n"
+    ++ codes "return k > TOP_BIT ? a - ((part)(a >= k) & k) : d + ((part)((__typeof__(a < d))d < 0) & k); }\n"
+    ++ codes "#endif\n"
+    ++ codes "INLINE vec reduced(vec a, word k) { PARTS(reduced_part(a.p[i], k)); }\n"
+
+-- products of the low 32 bits, and a part of moduli. GCC makes shifts and sums of a product by a constant, which take longer,
+-- so it does not see that this is one
+unfoldable pub vector_low_text : List ℕ
+vector_low_text =
+    codes "#ifdef BITS\n"
+    ++ codes "INLINE wide low(wide a, wide b) { return (wide)BY(mul_epu32, BITS(a), BITS(b)); }\n"
+    ++ codes "INLINE part moduli(void) { part m = (part){} + (word)M; __asm__(\"\" : \"+v\"(m)); return m; }\n"
+    ++ codes "#else\n"
+    ++ codes "#define LOW 0xffffffffULL\n"
+    ++ codes "INLINE wide low(wide a, wide b) { return (a & LOW) * (b & LOW); }\n"
+    ++ codes "INLINE part moduli(void) { return (part){} + (word)M; }\n"
     ++ codes "#endif\n"
 
--- the products of such registers in words of 52 bits: by an operation that gives the low or the high half of a product, or else
--- by halves of 26 bits
+-- products in words of 52 bits: by an operation that gives the low or the high half of a product, or else by halves of
+-- 26 bits
 unfoldable pub vector_fused_text : List ℕ
 vector_fused_text =
     codes "#if HALF == 67108864\n"
-    ++ codes "#if V == 8 && defined __AVX512IFMA__\n"
-    ++ codes "#include <immintrin.h>\n"
-    ++ codes "#define FMA(h, a, b, c) (vec)_mm512_madd52##h##_epu64((__m512i)(a), (__m512i)(b), (__m512i)(c))\n"
-    ++ codes "#elif V == 4 && defined __AVX512IFMA__ && defined __AVX512VL__\n"
-    ++ codes "#include <immintrin.h>\n"
-    ++ codes "#define FMA(h, a, b, c) (vec)_mm256_madd52##h##_epu64((__m256i)(a), (__m256i)(b), (__m256i)(c))\n"
+    ++ codes "#if defined BITS && defined __AVX512IFMA__ && (P == WORDS(64) || defined __AVX512VL__)\n"
+    ++ codes "#define FMA(h, a, b, c) (part)BY(madd52##h##_epu64, BITS(a), BITS(b), BITS(c))\n"
+    ++ codes "#elif defined BITS && defined __AVXIFMA__ && P < WORDS(64)\n"
+    ++ codes "#define FMA(h, a, b, c) (part)BY(madd52##h##_avx_epu64, BITS(a), BITS(b), BITS(c))\n"
     ++ codes "#endif\n"
     ++ codes "#ifdef FMA\n"
-    ++ codes "INLINE vec mul(vec a, vec c, vec q) { return FMA(lo, FMA(lo, (vec){}, a, c), FMA(hi, (vec){}, a, q), splat((1ULL << 52) - M)) & LOW52; }\n"
+    ++ codes "INLINE part mul_part(part a, part c, part q) {\n"
+    ++ codes "part none = {}, h = FMA(hi, none, a, q);\n"
+    ++ codes "return FMA(lo, FMA(lo, none, a, c), h, none + ((1ULL << 52) - M)) & LOW52; }\n"
     ++ codes "#else\n"
     ++ codes "#define PART 0x3ffffffULL\n"
-    ++ codes "INLINE vec low(vec a, vec b) { return (a & 0xffffffffULL) * (b & 0xffffffffULL); }\n"
-    ++ codes "INLINE vec mul(vec a, vec c, vec q) {\n"
-    ++ codes "vec a1 = (a & LOW52) >> 26, a0 = a & PART, q1 = q >> 26, q0 = q & PART;\n"
-    ++ codes "vec h = low(a1, q1) + ((low(a1, q0) + low(a0, q1) + (low(a0, q0) >> 26)) >> 26);\n"
-    ++ codes "return (a * c - h * (word)M) & LOW52; }\n"
+    ++ codes "INLINE part mul_part(part a, part c, part q) {\n"
+    ++ codes "part a1 = (a & LOW52) >> 26, a0 = a & PART, q1 = q >> 26, q0 = q & PART;\n"
+    ++ codes "part h = low(a1, q1) + ((low(a1, q0) + low(a0, q1) + (low(a0, q0) >> 26)) >> 26);\n"
+    ++ codes "return (a * c - h * moduli()) & LOW52; }\n"
     ++ codes "#endif\n"
-    ++ codes "#else\n"
 
--- the products of such registers in words of 32 and of 64 bits
+-- products in words of 32 and of 64 bits, and of registers
 unfoldable pub vector_product_text : List ℕ
 vector_product_text =
-    codes "#define LOW 0xffffffffULL\n"
-    ++ codes "INLINE wide low(wide a, wide b) { return (a & LOW) * (b & LOW); }\n"
+    codes "#else\n"
     ++ codes "#if HALF == 65536\n"
-    ++ codes "INLINE wide halves(wide a, wide q) { return (low(a, q) >> 32) | (low(a >> 32, q >> 32) & ~LOW); }\n"
+    ++ codes "INLINE part halves(part a, part q) {\n"
+    ++ codes "wide even = low((wide)a, (wide)q), odd = low((wide)a >> 32, (wide)q >> 32);\n"
+    ++ codes "return PICKED((part)even, (part)odd, LOWER, 1); }\n"
     ++ codes "#else\n"
-    ++ codes "INLINE wide halves(wide a, wide q) { wide a1 = a >> 32, q1 = q >> 32; return low(a1, q1) + (low(a1, q) >> 32) + (low(a, q1) >> 32); }\n"
+    ++ codes "INLINE part halves(part a, part q) {\n"
+    ++ codes "part a1 = a >> 32, q1 = q >> 32;\n"
+    ++ codes "return low(a1, q1) + (low(a1, q) >> 32) + (low(a, q1) >> 32); }\n"
     ++ codes "#endif\n"
-    ++ codes "INLINE vec mul(vec a, vec c, vec q) { return a * c - (vec)halves((wide)a, (wide)q) * (word)M; }\n"
+    ++ codes "INLINE part mul_part(part a, part c, part q) { return a * c - halves(a, q) * moduli(); }\n"
     ++ codes "#endif\n"
+    ++ codes "INLINE vec mul(vec a, vec c, vec q) { PARTS(mul_part(a.p[i], c.p[i], q.p[i])); }\n"
 
--- two such registers exchange the lanes that are d apart
-unfoldable pub exchange_text : List ℕ
-exchange_text =
-    codes "#if V == 2\n"
-    ++ codes "#define EACH(f, d) f(d, 0), f(d, 1)\n"
-    ++ codes "#elif V == 4\n"
-    ++ codes "#define EACH(f, d) f(d, 0), f(d, 1), f(d, 2), f(d, 3)\n"
-    ++ codes "#elif V == 8\n"
-    ++ codes "#define EACH(f, d) f(d, 0), f(d, 1), f(d, 2), f(d, 3), f(d, 4), f(d, 5), f(d, 6), f(d, 7)\n"
-    ++ codes "#else\n"
-    ++ codes "#define EACH(f, d) f(d, 0), f(d, 1), f(d, 2), f(d, 3), f(d, 4), f(d, 5), f(d, 6), f(d, 7), f(d, 8), f(d, 9), f(d, 10), f(d, 11), f(d, 12), f(d, 13), f(d, 14), f(d, 15)\n"
-    ++ codes "#endif\n"
-    ++ codes "#define UPPER(d, l) ((l) & (d) ? V + (l) - (d) : (l))\n"
-    ++ codes "#define LOWER(d, l) ((l) & (d) ? V + (l) : (l) + (d))\n"
-    ++ codes "#define EXCHANGE(d) INLINE void exchange##d(vec *a, vec *b) { vec x = __builtin_shufflevector(*a, *b, EACH(UPPER, d)); *b = __builtin_shufflevector(*a, *b, EACH(LOWER, d)); *a = x; }\n"
-    ++ codes "#define PAIR(d, i) ((i) & (d) ? (void)0 : exchange##d(b + (i), b + (i) + (d)))\n"
-
--- the registers' transposition
+-- the transposition of registers: of their parts, and then within these
 unfoldable pub vector_tile_text : List ℕ
 vector_tile_text =
-    codes "#if V > 8\n"
+    codes "INLINE void swap(part *a, part *b) { part x = *a; *a = *b; *b = x; }\n"
+    ++ codes "#define EXCHANGED(a, b, d) { part x = PICKED(a, b, UPPER, d); b = PICKED(a, b, LOWER, d); a = x; }\n"
+    ++ codes "#define EXCHANGE(d) for (int i = 0; i < V; i++) for (int k = 0; k < V / P; k++) \\\n"
+    ++ codes "if (!(i & d)) EXCHANGED(b[i].p[k], b[i + d].p[k], d)\n"
+    ++ codes "INLINE void tile(vec *b) {\n"
+    ++ codes "for (int i = 0; i < V; i++) for (int k = i / P + 1; k < V / P; k++) swap(b[i].p + k, b[P * k + i % P].p + i / P);\n"
+    ++ codes "#if P > 8\n"
     ++ codes "EXCHANGE(8)\n"
     ++ codes "#endif\n"
-    ++ codes "#if V > 4\n"
+    ++ codes "#if P > 4\n"
     ++ codes "EXCHANGE(4)\n"
     ++ codes "#endif\n"
-    ++ codes "#if V > 2\n"
+    ++ codes "#if P > 2\n"
     ++ codes "EXCHANGE(2)\n"
     ++ codes "#endif\n"
     ++ codes "EXCHANGE(1)\n"
-    ++ codes "INLINE void tile(vec *b) {\n"
-    ++ codes "#if V > 8\n"
-    ++ codes "EACH(PAIR, 8);\n"
-    ++ codes "#endif\n"
-    ++ codes "#if V > 4\n"
-    ++ codes "EACH(PAIR, 4);\n"
-    ++ codes "#endif\n"
-    ++ codes "#if V > 2\n"
-    ++ codes "EACH(PAIR, 2);\n"
-    ++ codes "#endif\n"
-    ++ codes "EACH(PAIR, 1);\n"
     ++ codes "}\n"
 
 -- a register of other lanes, one by one
@@ -177,7 +228,9 @@ lanes_text =
 
 -- what operations do, whatever the program
 unfoldable pub functions_text : List ℕ
-functions_text = word_text ++ one_lane_text ++ vector_text ++ vector_reduced_text ++ vector_fused_text ++ vector_product_text ++ exchange_text ++ vector_tile_text ++ lanes_text
+functions_text =
+    word_text ++ one_lane_text ++ part_text ++ vector_text ++ exchange_text ++ vector_reduced_text ++ vector_low_text
+    ++ vector_fused_text ++ vector_product_text ++ vector_tile_text ++ lanes_text
 
 abbrev pub rough_text : Bool → List ℕ
 rough_text true = codes "#define ROUGH 1\n"

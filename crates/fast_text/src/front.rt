@@ -2,7 +2,7 @@
 
 ghost use Rattle.std.specs.Prelude.{◌≡◌, ◌++◌, OnOk};
 ghost use Rattle.word_code.specs.Words.{Width};
-ghost use Rattle.fast_text.specs.WordFront.{word_text, one_lane_text, vector_text, vector_reduced_text, vector_fused_text, vector_product_text, exchange_text, vector_tile_text, lanes_text, functions_text, rough_text, sizes_text, arrays_text};
+ghost use Rattle.fast_text.specs.WordFront.{word_text, one_lane_text, part_text, vector_text, exchange_text, vector_reduced_text, vector_low_text, vector_fused_text, vector_product_text, vector_tile_text, lanes_text, functions_text, rough_text, sizes_text, arrays_text};
 
 use listing_text::{put_numbered, put_word};
 use std::alloc::AllocError;
@@ -59,147 +59,210 @@ INLINE void tile(vec *b) { (void)b; }
     )
 }
 
-// A register as a vector of GCC and Clang.
+// A register of lanes in parts: what a register of the machine holds, or at most 16 bytes where none is known.
+// P is how many words that is, and BY names an operation of the machine on it.
+#[tactic(auto, unfolding(crate::specs::WordFront::part_text))]
+fn put_part(out: &mut Vec<u8>) -> Result<(), AllocError>
+    ensures { OnOk result (out.new.items ≡ out.old.items ++ part_text) }
+{
+    out.extend_from_slice(
+        b"#elif (V == 2 || V == 4 || V == 8 || V == 16) && (HALF == 65536 || HALF == 67108864 || ROUGH)
+#if defined __AVX2__
+#include <immintrin.h>
+#elif defined __SSE4_1__
+#include <smmintrin.h>
+#elif defined __SSE2__
+#include <emmintrin.h>
+#endif
+#if HALF == 65536
+#define WORDS(bytes) ((bytes) / 4)
+#else
+#define WORDS(bytes) ((bytes) / 8)
+#endif
+#if defined __AVX512F__ && V >= WORDS(64)
+#define P WORDS(64)
+#define BITS(a) (__m512i)(a)
+#define BY(operation, ...) _mm512_##operation(__VA_ARGS__)
+#elif defined __AVX2__ && V >= WORDS(32)
+#define P WORDS(32)
+#define BITS(a) (__m256i)(a)
+#define BY(operation, ...) _mm256_##operation(__VA_ARGS__)
+#elif defined __SSE2__ && V >= WORDS(16)
+#define P WORDS(16)
+#define BITS(a) (__m128i)(a)
+#define BY(operation, ...) _mm_##operation(__VA_ARGS__)
+#else
+#define P (V < WORDS(16) ? V : WORDS(16))
+#endif
+",
+    )
+}
+
+// Registers of such parts.
 #[tactic(auto, unfolding(crate::specs::WordFront::vector_text))]
 fn put_vector(out: &mut Vec<u8>) -> Result<(), AllocError>
     ensures { OnOk result (out.new.items ≡ out.old.items ++ vector_text) }
 {
     out.extend_from_slice(
-        b"#elif (V == 2 || V == 4 || V == 8 || V == 16) && (HALF == 65536 || HALF == 67108864 || ROUGH)
-typedef word vec __attribute__((vector_size(sizeof(word) * V)));
-typedef word unaligned __attribute__((vector_size(sizeof(word) * V), aligned(sizeof(word)), may_alias));
-typedef uint64_t wide __attribute__((vector_size(sizeof(word) * V)));
-INLINE vec splat(word x) { return (vec){} + x; }
-INLINE vec load(const word *p) { return *(const unaligned *)p; }
-INLINE void store(word *p, vec a) { *(unaligned *)p = a; }
-INLINE vec add(vec a, vec b) { return a + b; }
-INLINE vec sub(vec a, vec b, word k) { return a + k - b; }
-INLINE vec neg(vec a, word k) { return k - a; }
+        b"typedef word part __attribute__((vector_size(sizeof(word) * P)));
+typedef word unaligned __attribute__((vector_size(sizeof(word) * P), aligned(sizeof(word)), may_alias));
+typedef uint64_t wide __attribute__((vector_size(sizeof(word) * P)));
+typedef struct { part p[V / P]; } vec;
+#define PARTS(e) vec r; for (int i = 0; i < V / P; i++) r.p[i] = (e); return r
+INLINE vec splat(word x) { PARTS((part){} + x); }
+INLINE vec load(const word *p) { PARTS(*(const unaligned *)(p + P * i)); }
+INLINE void store(word *p, vec a) { for (int i = 0; i < V / P; i++) *(unaligned *)(p + P * i) = a.p[i]; }
+INLINE vec add(vec a, vec b) { PARTS(a.p[i] + b.p[i]); }
+INLINE vec sub(vec a, vec b, word k) { PARTS(a.p[i] + k - b.p[i]); }
+INLINE vec neg(vec a, word k) { PARTS(k - a.p[i]); }
 ",
     )
 }
 
-// The least of a and a - k in such registers. No word is twice its k or more, so where k is at most half of all words, the top
-// bit of a - k says which it is.
+// The lanes of two parts, picked as UPPER or LOWER says; both together exchange the lanes that are d apart.
+#[tactic(auto, unfolding(crate::specs::WordFront::exchange_text))]
+fn put_exchange(out: &mut Vec<u8>) -> Result<(), AllocError>
+    ensures { OnOk result (out.new.items ≡ out.old.items ++ exchange_text) }
+{
+    out.extend_from_slice(
+        b"#if P == 2
+#define EACH(f, d) f(d, 0), f(d, 1)
+#elif P == 4
+#define EACH(f, d) f(d, 0), f(d, 1), f(d, 2), f(d, 3)
+#elif P == 8
+#define EACH(f, d) f(d, 0), f(d, 1), f(d, 2), f(d, 3), f(d, 4), f(d, 5), f(d, 6), f(d, 7)
+#else
+#define EACH(f, d) f(d, 0), f(d, 1), f(d, 2), f(d, 3), f(d, 4), f(d, 5), f(d, 6), f(d, 7), EACH_LATER(f, d)
+#define EACH_LATER(f, d) f(d, 8), f(d, 9), f(d, 10), f(d, 11), f(d, 12), f(d, 13), f(d, 14), f(d, 15)
+#endif
+#define UPPER(d, l) ((l) & (d) ? P + (l) - (d) : (l))
+#define LOWER(d, l) ((l) & (d) ? P + (l) : (l) + (d))
+#define PICKED(a, b, f, d) __builtin_shufflevector(a, b, EACH(f, d))
+",
+    )
+}
+
+// The least of a and a - k. No word is twice its k or more, so where k is at most half of all words, the top bit of a - k says
+// which it is.
 #[tactic(auto, unfolding(crate::specs::WordFront::vector_reduced_text))]
 fn put_vector_reduced(out: &mut Vec<u8>) -> Result<(), AllocError>
     ensures { OnOk result (out.new.items ≡ out.old.items ++ vector_reduced_text) }
 {
     out.extend_from_slice(
-        b"#if defined __has_builtin
-#if __has_builtin(__builtin_elementwise_min) && (HALF == 65536 || defined __AVX512F__)
+        b"#if defined BITS && HALF == 65536 && defined __SSE4_1__
+#define MINIMUM(a, b) (part)BY(min_epu32, BITS(a), BITS(b))
+#elif defined BITS && HALF != 65536 && defined __AVX512F__ && (P == WORDS(64) || defined __AVX512VL__)
+#define MINIMUM(a, b) (part)BY(min_epu64, BITS(a), BITS(b))
+#elif !defined BITS && HALF == 65536 && defined __has_builtin
+#if __has_builtin(__builtin_elementwise_min)
 #define MINIMUM __builtin_elementwise_min
 #endif
 #endif
 #ifdef MINIMUM
-INLINE vec reduced(vec a, word k) { return MINIMUM(a, a - k); }
+INLINE part reduced_part(part a, word k) { return MINIMUM(a, a - k); }
 #else
 #define TOP_BIT ((word)1 << (8 * sizeof(word) - 1))
-INLINE vec reduced(vec a, word k) { vec d = a - k; return k > TOP_BIT ? a - ((vec)(a >= k) & k) : d + ((vec)((__typeof__(a < d))d < 0) & k); }
+INLINE part reduced_part(part a, word k) {
+part d = a - k;
+return k > TOP_BIT ? a - ((part)(a >= k) & k) : d + ((part)((__typeof__(a < d))d < 0) & k); }
+#endif
+INLINE vec reduced(vec a, word k) { PARTS(reduced_part(a.p[i], k)); }
+",
+    )
+}
+
+// Products of the low 32 bits, and a part of moduli. GCC makes shifts and sums of a product by a constant, which take longer,
+// so it does not see that this is one.
+#[tactic(auto, unfolding(crate::specs::WordFront::vector_low_text))]
+fn put_vector_low(out: &mut Vec<u8>) -> Result<(), AllocError>
+    ensures { OnOk result (out.new.items ≡ out.old.items ++ vector_low_text) }
+{
+    out.extend_from_slice(
+        b"#ifdef BITS
+INLINE wide low(wide a, wide b) { return (wide)BY(mul_epu32, BITS(a), BITS(b)); }
+INLINE part moduli(void) { part m = (part){} + (word)M; __asm__(\"\" : \"+v\"(m)); return m; }
+#else
+#define LOW 0xffffffffULL
+INLINE wide low(wide a, wide b) { return (a & LOW) * (b & LOW); }
+INLINE part moduli(void) { return (part){} + (word)M; }
 #endif
 ",
     )
 }
 
-// The products of such registers in words of 52 bits: by an operation that gives the low or the high half of a product, or else
-// by halves of 26 bits.
+// Products in words of 52 bits: by an operation that gives the low or the high half of a product, or else by halves of
+// 26 bits.
 #[tactic(auto, unfolding(crate::specs::WordFront::vector_fused_text))]
 fn put_vector_fused(out: &mut Vec<u8>) -> Result<(), AllocError>
     ensures { OnOk result (out.new.items ≡ out.old.items ++ vector_fused_text) }
 {
     out.extend_from_slice(
         b"#if HALF == 67108864
-#if V == 8 && defined __AVX512IFMA__
-#include <immintrin.h>
-#define FMA(h, a, b, c) (vec)_mm512_madd52##h##_epu64((__m512i)(a), (__m512i)(b), (__m512i)(c))
-#elif V == 4 && defined __AVX512IFMA__ && defined __AVX512VL__
-#include <immintrin.h>
-#define FMA(h, a, b, c) (vec)_mm256_madd52##h##_epu64((__m256i)(a), (__m256i)(b), (__m256i)(c))
+#if defined BITS && defined __AVX512IFMA__ && (P == WORDS(64) || defined __AVX512VL__)
+#define FMA(h, a, b, c) (part)BY(madd52##h##_epu64, BITS(a), BITS(b), BITS(c))
+#elif defined BITS && defined __AVXIFMA__ && P < WORDS(64)
+#define FMA(h, a, b, c) (part)BY(madd52##h##_avx_epu64, BITS(a), BITS(b), BITS(c))
 #endif
 #ifdef FMA
-INLINE vec mul(vec a, vec c, vec q) { return FMA(lo, FMA(lo, (vec){}, a, c), FMA(hi, (vec){}, a, q), splat((1ULL << 52) - M)) & LOW52; }
+INLINE part mul_part(part a, part c, part q) {
+part none = {}, h = FMA(hi, none, a, q);
+return FMA(lo, FMA(lo, none, a, c), h, none + ((1ULL << 52) - M)) & LOW52; }
 #else
 #define PART 0x3ffffffULL
-INLINE vec low(vec a, vec b) { return (a & 0xffffffffULL) * (b & 0xffffffffULL); }
-INLINE vec mul(vec a, vec c, vec q) {
-vec a1 = (a & LOW52) >> 26, a0 = a & PART, q1 = q >> 26, q0 = q & PART;
-vec h = low(a1, q1) + ((low(a1, q0) + low(a0, q1) + (low(a0, q0) >> 26)) >> 26);
-return (a * c - h * (word)M) & LOW52; }
+INLINE part mul_part(part a, part c, part q) {
+part a1 = (a & LOW52) >> 26, a0 = a & PART, q1 = q >> 26, q0 = q & PART;
+part h = low(a1, q1) + ((low(a1, q0) + low(a0, q1) + (low(a0, q0) >> 26)) >> 26);
+return (a * c - h * moduli()) & LOW52; }
 #endif
-#else
 ",
     )
 }
 
-// The products of such registers in words of 32 and of 64 bits.
+// Products in words of 32 and of 64 bits, and of registers.
 #[tactic(auto, unfolding(crate::specs::WordFront::vector_product_text))]
 fn put_vector_product(out: &mut Vec<u8>) -> Result<(), AllocError>
     ensures { OnOk result (out.new.items ≡ out.old.items ++ vector_product_text) }
 {
     out.extend_from_slice(
-        b"#define LOW 0xffffffffULL
-INLINE wide low(wide a, wide b) { return (a & LOW) * (b & LOW); }
+        b"#else
 #if HALF == 65536
-INLINE wide halves(wide a, wide q) { return (low(a, q) >> 32) | (low(a >> 32, q >> 32) & ~LOW); }
+INLINE part halves(part a, part q) {
+wide even = low((wide)a, (wide)q), odd = low((wide)a >> 32, (wide)q >> 32);
+return PICKED((part)even, (part)odd, LOWER, 1); }
 #else
-INLINE wide halves(wide a, wide q) { wide a1 = a >> 32, q1 = q >> 32; return low(a1, q1) + (low(a1, q) >> 32) + (low(a, q1) >> 32); }
+INLINE part halves(part a, part q) {
+part a1 = a >> 32, q1 = q >> 32;
+return low(a1, q1) + (low(a1, q) >> 32) + (low(a, q1) >> 32); }
 #endif
-INLINE vec mul(vec a, vec c, vec q) { return a * c - (vec)halves((wide)a, (wide)q) * (word)M; }
+INLINE part mul_part(part a, part c, part q) { return a * c - halves(a, q) * moduli(); }
 #endif
+INLINE vec mul(vec a, vec c, vec q) { PARTS(mul_part(a.p[i], c.p[i], q.p[i])); }
 ",
     )
 }
 
-// Two such registers exchange the lanes that are d apart.
-#[tactic(auto, unfolding(crate::specs::WordFront::exchange_text))]
-fn put_exchange(out: &mut Vec<u8>) -> Result<(), AllocError>
-    ensures { OnOk result (out.new.items ≡ out.old.items ++ exchange_text) }
-{
-    out.extend_from_slice(
-        b"#if V == 2
-#define EACH(f, d) f(d, 0), f(d, 1)
-#elif V == 4
-#define EACH(f, d) f(d, 0), f(d, 1), f(d, 2), f(d, 3)
-#elif V == 8
-#define EACH(f, d) f(d, 0), f(d, 1), f(d, 2), f(d, 3), f(d, 4), f(d, 5), f(d, 6), f(d, 7)
-#else
-#define EACH(f, d) f(d, 0), f(d, 1), f(d, 2), f(d, 3), f(d, 4), f(d, 5), f(d, 6), f(d, 7), f(d, 8), f(d, 9), f(d, 10), f(d, 11), f(d, 12), f(d, 13), f(d, 14), f(d, 15)
-#endif
-#define UPPER(d, l) ((l) & (d) ? V + (l) - (d) : (l))
-#define LOWER(d, l) ((l) & (d) ? V + (l) : (l) + (d))
-#define EXCHANGE(d) INLINE void exchange##d(vec *a, vec *b) { vec x = __builtin_shufflevector(*a, *b, EACH(UPPER, d)); *b = __builtin_shufflevector(*a, *b, EACH(LOWER, d)); *a = x; }
-#define PAIR(d, i) ((i) & (d) ? (void)0 : exchange##d(b + (i), b + (i) + (d)))
-",
-    )
-}
-
-// The registers' transposition.
+// The transposition of registers: of their parts, and then within these.
 #[tactic(auto, unfolding(crate::specs::WordFront::vector_tile_text))]
 fn put_vector_tile(out: &mut Vec<u8>) -> Result<(), AllocError>
     ensures { OnOk result (out.new.items ≡ out.old.items ++ vector_tile_text) }
 {
     out.extend_from_slice(
-        b"#if V > 8
+        b"INLINE void swap(part *a, part *b) { part x = *a; *a = *b; *b = x; }
+#define EXCHANGED(a, b, d) { part x = PICKED(a, b, UPPER, d); b = PICKED(a, b, LOWER, d); a = x; }
+#define EXCHANGE(d) for (int i = 0; i < V; i++) for (int k = 0; k < V / P; k++) \\
+if (!(i & d)) EXCHANGED(b[i].p[k], b[i + d].p[k], d)
+INLINE void tile(vec *b) {
+for (int i = 0; i < V; i++) for (int k = i / P + 1; k < V / P; k++) swap(b[i].p + k, b[P * k + i % P].p + i / P);
+#if P > 8
 EXCHANGE(8)
 #endif
-#if V > 4
+#if P > 4
 EXCHANGE(4)
 #endif
-#if V > 2
+#if P > 2
 EXCHANGE(2)
 #endif
 EXCHANGE(1)
-INLINE void tile(vec *b) {
-#if V > 8
-EACH(PAIR, 8);
-#endif
-#if V > 4
-EACH(PAIR, 4);
-#endif
-#if V > 2
-EACH(PAIR, 2);
-#endif
-EACH(PAIR, 1);
 }
 ",
     )
@@ -240,11 +303,13 @@ pub(crate) fn put_functions(out: &mut Vec<u8>) -> Result<(), AllocError>
 {
     put_word_type(out)?;
     put_one_lane(out)?;
+    put_part(out)?;
     put_vector(out)?;
+    put_exchange(out)?;
     put_vector_reduced(out)?;
+    put_vector_low(out)?;
     put_vector_fused(out)?;
     put_vector_product(out)?;
-    put_exchange(out)?;
     put_vector_tile(out)?;
     put_lanes(out)
 }
