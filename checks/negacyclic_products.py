@@ -3,7 +3,8 @@
 
     checks/negacyclic_products.py
 
-Kyber's transform is compared with the remainders that define it, forward, back and for products. CC names the compiler (cc).
+Kyber's transform is compared with the remainders that define it, forward, back and for products, and Dilithium's with
+FIPS 204's algorithm, in its order and in the natural one. CC names the compiler (cc).
 """
 
 import os
@@ -21,7 +22,7 @@ sys.path.insert(0, EXAMPLE)
 from kyber import MODULUS as KYBER_MODULUS  # noqa: E402
 from kyber import SIZE as KYBER_SIZE  # noqa: E402
 from kyber import ZETA, transform  # noqa: E402
-from negacyclic import listing  # noqa: E402
+from negacyclic import listing, twist_for  # noqa: E402
 from residues import join  # noqa: E402
 
 SIXTY_BITS = 1152921504606748673
@@ -33,8 +34,34 @@ LISTINGS = [  # size, modulus, further words of the request
     (1024, 12289, "procs 4 line 8 lanes 8 unroll 16"),
     (4096, SIXTY_BITS, ""),
     (4096, SIXTY_BITS, "lanes 8 unroll 16"),
+    (12, 97, "unroll 4"),  # coprime parts, a table for all words
+    (36, 73, "lanes 2"),
+    (64, 12289, "unroll 64"),
 ]
-PROGRAMS = [(4, 12289, ""), (1024, 12289, "lanes 8"), (256, 8380417, ""), (4096, SIXTY_BITS, "lanes 4")]
+DILITHIUM_SIZE, DILITHIUM, DILITHIUM_TWIST = 256, 8380417, 1753
+DILITHIUM_WORDS = ("", "unroll 16", "unroll 2", "lanes 2", "lanes 8 unroll 16", "lanes 16 unroll 16")
+# What is refused, with the reason.
+REFUSED = [
+    (("forward", "256", "8380417", "--twist", "1754"), "negacyclic.py: the power 256 of 1754 is not -1 modulo 8380417"),
+    (
+        ("back", "256", "8380417", "--twist", "1753", "--root", "5"),
+        "negacyclic.py: the square of 1753 is 3073009 modulo 8380417, not 5",
+    ),
+    (
+        ("forward", "256", "8380417", "procs 2 line 8", "--order", "reversed"),
+        "negacyclic.py: an order by bits is of one processor, since words of all lines go to one",
+    ),
+    (("forward", "12", "97", "--order", "reversed"), "negacyclic.py: an order by bits is of a power of two"),
+]
+PROGRAMS = [  # size, modulus, further words of the request, options of negacyclic.py and of spiral-fast
+    (4, 12289, "", "", ""),
+    (1024, 12289, "lanes 8", "", ""),
+    (1024, 12289, "unroll 16", "", "--lanes 16"),
+    (256, 8380417, "", "", ""),
+    (256, 8380417, "lanes 8 unroll 16", "--twist 1753 --order reversed", ""),
+    (4096, SIXTY_BITS, "lanes 4", "", ""),
+    (1024, 1125899906826241, "unroll 16", "", "--words 52 --lanes 8"),
+]
 
 
 def output(words, text):
@@ -134,8 +161,58 @@ def check_kyber():
     return 3
 
 
-def check_program(program, words, size, modulus):
-    done = subprocess.run([f"{EXAMPLE}/build.sh", *words, program, "-O1"], capture_output=True, text=True)
+def fips_transform(terms):
+    """Algorithm 41 of FIPS 204, NTT."""
+    result, layer, length = list(terms), 0, DILITHIUM_SIZE // 2
+    while length >= 1:
+        for start in range(0, DILITHIUM_SIZE, 2 * length):
+            layer += 1
+            zeta = pow(DILITHIUM_TWIST, int(f"{layer:08b}"[::-1], 2), DILITHIUM)
+            for j in range(start, start + length):
+                t = zeta * result[j + length] % DILITHIUM
+                result[j + length] = (result[j] - t) % DILITHIUM
+                result[j] = (result[j] + t) % DILITHIUM
+        length //= 2
+    return result
+
+
+def check_dilithium():
+    """Each transform and its inverse, in FIPS 204's order and in the natural one."""
+    (a, b), (most, _) = pairs(DILITHIUM_SIZE, DILITHIUM)
+    transforms = [fips_transform(terms) for terms in (a, b, most)]
+    natural = [[row[int(f"{k:08b}"[::-1], 2)] for k in range(DILITHIUM_SIZE)] for row in transforms]
+    cases = [(words, order) for words in DILITHIUM_WORDS for order in ("natural", "reversed")]
+    for words, order in cases:
+        wanted = transforms if order == "reversed" else natural
+        ways = [listing(way, DILITHIUM_SIZE, DILITHIUM, words, DILITHIUM_TWIST, None, order) for way in ("forward", "back")]
+        check(exec_listing(ways[0], [a, b, most]) == wanted, f"Dilithium's transform, {words}, {order}")
+        check(exec_listing(ways[1], wanted) == [a, b, most], f"Dilithium's way back, {words}, {order}")
+    return 2 * len(cases)
+
+
+def check_tables():
+    """On one processor a size that is a power of two gets no table more than its request has."""
+    for size, modulus, words in ((1024, 12289, "unroll 16"), (256, 8380417, "lanes 8")):
+        request = f"dft {size} mod {modulus} root {pow(twist_for(size, modulus), 2, modulus)} {words}\n"
+        tables = [text.count("\ntable ") for text in (output(["spiral", "code"], request), listing("forward", size, modulus, words))]
+        check(tables[0] == tables[1], f"the number of tables of {size} terms")
+    return 2
+
+
+def check_refused():
+    for words, why in REFUSED:
+        done = subprocess.run([f"{EXAMPLE}/negacyclic.py", *words], capture_output=True, text=True)
+        check((done.returncode, done.stdout, done.stderr) == (1, "", why + "\n"), f"what refuses {' '.join(words)}")
+    return len(REFUSED)
+
+
+def check_program(program, words, size, modulus, options="", fast=""):
+    done = subprocess.run(
+        [f"{EXAMPLE}/build.sh", *words, program, "-O1"],
+        capture_output=True,
+        text=True,
+        env={**os.environ, "LISTING_OPTIONS": options, "FAST_OPTIONS": fast},
+    )
     if done.returncode != 0:
         sys.exit(f"negacyclic_products: build.sh {' '.join(words)}: {done.stderr}")
     given = pairs(size, modulus)
@@ -146,8 +223,8 @@ def check_program(program, words, size, modulus):
 def check_programs():
     """Gives how many programs were right."""
     with tempfile.TemporaryDirectory() as folder:
-        for size, modulus, words in PROGRAMS:
-            check_program(f"{folder}/product", [str(size), str(modulus), words], size, modulus)
+        for size, modulus, words, options, fast in PROGRAMS:
+            check_program(f"{folder}/product", [str(size), str(modulus), words], size, modulus, options, fast)
         check_program(f"{folder}/kyber", ["kyber"], KYBER_SIZE, KYBER_MODULUS)
     return len(PROGRAMS) + 1
 
@@ -157,7 +234,7 @@ def main():
         sys.exit(__doc__)
     for case in LISTINGS:
         check_listings(*case)
-    right = len(LISTINGS) + check_residues() + check_kyber()
+    right = len(LISTINGS) + check_residues() + check_kyber() + check_dilithium() + check_tables() + check_refused()
     print(f"products modulo x^n + 1: {right} listings and {check_programs()} programs right")
 
 

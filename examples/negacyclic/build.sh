@@ -3,7 +3,8 @@
 # usage: build.sh SIZE M 'WORDS OF THE REQUEST' PROGRAM [FLAG ..]
 #        build.sh kyber PROGRAM [FLAG ..]
 #   build.sh 1024 12289 'lanes 8 unroll 16' falcon -O3 -march=native
-# The programs are `spiral` and `spiral-fast` of the path, or else of bin/. CC names the compiler (cc).
+# The programs are `spiral` and `spiral-fast` of the path, or else of bin/. CC names the compiler (cc). LISTING_OPTIONS are of
+# negacyclic.py ('--twist 1753 --order reversed'), FAST_OPTIONS of spiral-fast ('--words 52 --lanes 8').
 set -euo pipefail
 if [ "${1:-}" = kyber ] && [ $# -ge 2 ]; then
   program=$2 kyber=-DKYBER
@@ -18,13 +19,15 @@ fi
 here=$(cd "$(dirname "$0")" && pwd)
 PATH=$PATH:$here/../../bin
 folder=$program.texts
+read -ra listing_options <<<"${LISTING_OPTIONS:-}"
+read -ra fast_options <<<"${FAST_OPTIONS:-}"
 mkdir -p "$folder"
 for name in forward back; do
   if [ -n "$kyber" ]; then
     "$here/kyber.py" "$name" | spiral compile --mod 3329
   else
-    "$here/negacyclic.py" "$name" "$size" "$modulus" "$words"
-  fi | "$here/../function.sh" "$folder/$name"
+    "$here/negacyclic.py" "$name" "$size" "$modulus" "$words" "${listing_options[@]}"
+  fi | "$here/../function.sh" "$folder/$name" "${fast_options[@]}"
 done
 word=$(sed -n 's/^void forward(\(uint[0-9]*_t\) .*/\1/p' "$folder/forward.h")
 exec "${CC:-cc}" -std=gnu11 -Wall -Wextra -Werror -Wno-psabi "${@:--O2}" ${kyber:+"$kyber"} -DWORD="$word" \

@@ -4,9 +4,16 @@
     negacyclic.py forward SIZE M [WORDS]     word k is the polynomial at twist^(2 * k + 1)
     negacyclic.py back SIZE M [WORDS]        the polynomial again
 
-M is a prime with 2 * SIZE dividing it less one, the twist that of `choose.py SIZE mod M`, and WORDS are further words
-of the request, as 'lanes 8 unroll 16'. What forward makes of two polynomials is multiplied place by place, and back
-makes of it their product modulo x^SIZE + 1. The program is the `spiral` of the path, or else bin/spiral.
+M is a prime with 2 * SIZE dividing it less one, and WORDS are further words of the request, as 'lanes 8 unroll 16'.
+What forward makes of two polynomials is multiplied place by place, and back makes of it their product modulo
+x^SIZE + 1.
+
+    --twist P          the twist, in place of that of `choose.py SIZE mod M`; its power SIZE is -1
+    --root W           refuses the twist if its square is another number
+    --order reversed   word k of the transform is the polynomial at twist^(2 * r(k) + 1), where r turns the bits of k
+                       round, as in FIPS 204; SIZE is a power of two, and there is one processor
+
+The program is the `spiral` of the path, or else bin/spiral.
 """
 
 import argparse
@@ -14,7 +21,9 @@ import os
 import subprocess
 import sys
 
-from twist import twisted
+from listings import Listing
+from reversal import reverse
+from twist import twist
 
 HERE = os.path.dirname(os.path.abspath(__file__))
 os.environ["PATH"] += f"{os.pathsep}{HERE}/../../bin"
@@ -30,14 +39,33 @@ def code(request):
     return done.stdout
 
 
-def listing(direction, size, modulus, words=""):
-    modulus, root, *twist = roots_of(size, modulus)
-    if not twist:
-        sys.exit(f"negacyclic.py: {modulus} has no root of order {2 * size}")
-    if direction == "forward":
-        return twisted(code(f"dft {size} mod {modulus} root {root} {words}".rstrip()), "in", twist[0])
-    request = f"dft {size} mod {modulus} root {pow(root, -1, modulus)} {words}".rstrip()
-    return twisted(code(request), "out", pow(twist[0], -1, modulus), pow(size, -1, modulus))
+def refuse(why):
+    sys.exit(f"negacyclic.py: {why}")
+
+
+def twist_for(size, modulus, given=None, root=None):
+    """A number whose power SIZE is -1: the one that is given, or that of choose.py."""
+    modulus, _, *chosen = roots_of(size, modulus)
+    if given is None and not chosen:
+        refuse(f"{modulus} has no root of order {2 * size}")
+    found = chosen[0] if given is None else given % modulus
+    if pow(found, size, modulus) != modulus - 1:
+        refuse(f"the power {size} of {found} is not -1 modulo {modulus}")
+    if root is not None and found * found % modulus != root:
+        refuse(f"the square of {found} is {found * found % modulus} modulo {modulus}, not {root}")
+    return found
+
+
+def listing(direction, size, modulus, words="", given=None, root=None, order="natural"):
+    base = twist_for(size, modulus, given, root)
+    scale, inner = 1, "out"
+    if direction == "back":
+        base, scale, inner = pow(base, -1, modulus), pow(size, -1, modulus), "in"
+    made = Listing(code(f"dft {size} mod {modulus} root {base * base % modulus} {words}".rstrip()), "negacyclic.py")
+    if order == "reversed":
+        reverse(made, inner)
+    twist(made, "in" if inner == "out" else "out", base, scale)
+    return made.text()
 
 
 def main():
@@ -46,10 +74,14 @@ def main():
     parser.add_argument("size", type=int, metavar="SIZE")
     parser.add_argument("modulus", type=int, metavar="M")
     parser.add_argument("words", nargs="?", default="", metavar="WORDS")
+    parser.add_argument("--twist", type=int, metavar="P", help="a number whose power SIZE is -1")
+    parser.add_argument("--root", type=int, metavar="W", help="the square of the twist")
+    parser.add_argument("--order", choices=("natural", "reversed"), default="natural", help="of the transform's words")
     words = parser.parse_args()
     if words.size < 1 or words.modulus < 2:
         parser.error("SIZE is at least 1, and M at least 2")
-    sys.stdout.write(listing(words.direction, words.size, words.modulus, words.words))
+    made = listing(words.direction, words.size, words.modulus, words.words, words.twist, words.root, words.order)
+    sys.stdout.write(made)
 
 
 if __name__ == "__main__":

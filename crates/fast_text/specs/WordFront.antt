@@ -80,13 +80,14 @@ part_text =
 unfoldable pub vector_text : List ℕ
 vector_text =
     codes "typedef word part __attribute__((vector_size(sizeof(word) * P)));\n"
-    ++ codes "typedef word unaligned __attribute__((vector_size(sizeof(word) * P), aligned(sizeof(word)), may_alias));\n"
+    ++ codes "typedef part unaligned __attribute__((aligned(sizeof(word)), may_alias));\n"
     ++ codes "typedef uint64_t wide __attribute__((vector_size(sizeof(word) * P)));\n"
     ++ codes "typedef struct { part p[V / P]; } vec;\n"
     ++ codes "#define PARTS(e) vec r; for (int i = 0; i < V / P; i++) r.p[i] = (e); return r\n"
     ++ codes "INLINE vec splat(word x) { PARTS((part){} + x); }\n"
     ++ codes "INLINE vec load(const word *p) { PARTS(*(const unaligned *)(p + P * i)); }\n"
-    ++ codes "INLINE void store(word *p, vec a) { for (int i = 0; i < V / P; i++) *(unaligned *)(p + P * i) = a.p[i]; }\n"
+    ++ codes "INLINE void store(word *p, vec a) {\n"
+    ++ codes "for (int i = 0; i < V / P; i++) *(unaligned *)(p + P * i) = a.p[i]; }\n"
     ++ codes "INLINE vec add(vec a, vec b) { PARTS(a.p[i] + b.p[i]); }\n"
     ++ codes "INLINE vec sub(vec a, vec b, word k) { PARTS(a.p[i] + k - b.p[i]); }\n"
     ++ codes "INLINE vec neg(vec a, word k) { PARTS(k - a.p[i]); }\n"
@@ -101,15 +102,16 @@ exchange_text =
     ++ codes "#elif P == 8\n"
     ++ codes "#define EACH(f, d) f(d, 0), f(d, 1), f(d, 2), f(d, 3), f(d, 4), f(d, 5), f(d, 6), f(d, 7)\n"
     ++ codes "#else\n"
-    ++ codes "#define EACH(f, d) f(d, 0), f(d, 1), f(d, 2), f(d, 3), f(d, 4), f(d, 5), f(d, 6), f(d, 7), EACH_LATER(f, d)\n"
-    ++ codes "#define EACH_LATER(f, d) f(d, 8), f(d, 9), f(d, 10), f(d, 11), f(d, 12), f(d, 13), f(d, 14), f(d, 15)\n"
+    ++ codes "#define FIRST(f, d) f(d, 0), f(d, 1), f(d, 2), f(d, 3), f(d, 4), f(d, 5), f(d, 6), f(d, 7)\n"
+    ++ codes "#define LAST(f, d) f(d, 8), f(d, 9), f(d, 10), f(d, 11), f(d, 12), f(d, 13), f(d, 14), f(d, 15)\n"
+    ++ codes "#define EACH(f, d) FIRST(f, d), LAST(f, d)\n"
     ++ codes "#endif\n"
     ++ codes "#define UPPER(d, l) ((l) & (d) ? P + (l) - (d) : (l))\n"
     ++ codes "#define LOWER(d, l) ((l) & (d) ? P + (l) : (l) + (d))\n"
     ++ codes "#define PICKED(a, b, f, d) __builtin_shufflevector(a, b, EACH(f, d))\n"
 
--- the least of a and a - k. No word is twice its k or more, so where k is at most half of all words, the top bit of a - k says
--- which it is
+-- the least of a and a - k. No word is twice its k or more, so where k is at most half of all words, the top bit of
+-- a - k says which it is
 unfoldable pub vector_reduced_text : List ℕ
 vector_reduced_text =
     codes "#if defined BITS && HALF == 65536 && defined __SSE4_1__\n"
@@ -131,8 +133,8 @@ vector_reduced_text =
     ++ codes "#endif\n"
     ++ codes "INLINE vec reduced(vec a, word k) { PARTS(reduced_part(a.p[i], k)); }\n"
 
--- products of the low 32 bits, and a part of moduli. GCC makes shifts and sums of a product by a constant, which take longer,
--- so it does not see that this is one
+-- products of the low 32 bits, and a part of moduli. GCC makes shifts and sums of a product by a constant, which take
+-- longer, so it does not see that this is one
 unfoldable pub vector_low_text : List ℕ
 vector_low_text =
     codes "#ifdef BITS\n"
@@ -191,7 +193,8 @@ vector_tile_text =
     ++ codes "#define EXCHANGE(d) for (int i = 0; i < V; i++) for (int k = 0; k < V / P; k++) \\\n"
     ++ codes "if (!(i & d)) EXCHANGED(b[i].p[k], b[i + d].p[k], d)\n"
     ++ codes "INLINE void tile(vec *b) {\n"
-    ++ codes "for (int i = 0; i < V; i++) for (int k = i / P + 1; k < V / P; k++) swap(b[i].p + k, b[P * k + i % P].p + i / P);\n"
+    ++ codes "for (int i = 0; i < V; i++) for (int k = i / P + 1; k < V / P; k++)\n"
+    ++ codes "swap(b[i].p + k, b[P * k + i % P].p + i / P);\n"
     ++ codes "#if P > 8\n"
     ++ codes "EXCHANGE(8)\n"
     ++ codes "#endif\n"

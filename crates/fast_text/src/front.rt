@@ -105,13 +105,14 @@ fn put_vector(out: &mut Vec<u8>) -> Result<(), AllocError>
 {
     out.extend_from_slice(
         b"typedef word part __attribute__((vector_size(sizeof(word) * P)));
-typedef word unaligned __attribute__((vector_size(sizeof(word) * P), aligned(sizeof(word)), may_alias));
+typedef part unaligned __attribute__((aligned(sizeof(word)), may_alias));
 typedef uint64_t wide __attribute__((vector_size(sizeof(word) * P)));
 typedef struct { part p[V / P]; } vec;
 #define PARTS(e) vec r; for (int i = 0; i < V / P; i++) r.p[i] = (e); return r
 INLINE vec splat(word x) { PARTS((part){} + x); }
 INLINE vec load(const word *p) { PARTS(*(const unaligned *)(p + P * i)); }
-INLINE void store(word *p, vec a) { for (int i = 0; i < V / P; i++) *(unaligned *)(p + P * i) = a.p[i]; }
+INLINE void store(word *p, vec a) {
+for (int i = 0; i < V / P; i++) *(unaligned *)(p + P * i) = a.p[i]; }
 INLINE vec add(vec a, vec b) { PARTS(a.p[i] + b.p[i]); }
 INLINE vec sub(vec a, vec b, word k) { PARTS(a.p[i] + k - b.p[i]); }
 INLINE vec neg(vec a, word k) { PARTS(k - a.p[i]); }
@@ -132,8 +133,9 @@ fn put_exchange(out: &mut Vec<u8>) -> Result<(), AllocError>
 #elif P == 8
 #define EACH(f, d) f(d, 0), f(d, 1), f(d, 2), f(d, 3), f(d, 4), f(d, 5), f(d, 6), f(d, 7)
 #else
-#define EACH(f, d) f(d, 0), f(d, 1), f(d, 2), f(d, 3), f(d, 4), f(d, 5), f(d, 6), f(d, 7), EACH_LATER(f, d)
-#define EACH_LATER(f, d) f(d, 8), f(d, 9), f(d, 10), f(d, 11), f(d, 12), f(d, 13), f(d, 14), f(d, 15)
+#define FIRST(f, d) f(d, 0), f(d, 1), f(d, 2), f(d, 3), f(d, 4), f(d, 5), f(d, 6), f(d, 7)
+#define LAST(f, d) f(d, 8), f(d, 9), f(d, 10), f(d, 11), f(d, 12), f(d, 13), f(d, 14), f(d, 15)
+#define EACH(f, d) FIRST(f, d), LAST(f, d)
 #endif
 #define UPPER(d, l) ((l) & (d) ? P + (l) - (d) : (l))
 #define LOWER(d, l) ((l) & (d) ? P + (l) : (l) + (d))
@@ -142,8 +144,8 @@ fn put_exchange(out: &mut Vec<u8>) -> Result<(), AllocError>
     )
 }
 
-// The least of a and a - k. No word is twice its k or more, so where k is at most half of all words, the top bit of a - k says
-// which it is.
+// The least of a and a - k. No word is twice its k or more, so where k is at most half of all words, the top bit of
+// a - k says which it is.
 #[tactic(auto, unfolding(crate::specs::WordFront::vector_reduced_text))]
 fn put_vector_reduced(out: &mut Vec<u8>) -> Result<(), AllocError>
     ensures { OnOk result (out.new.items ≡ out.old.items ++ vector_reduced_text) }
@@ -171,8 +173,8 @@ INLINE vec reduced(vec a, word k) { PARTS(reduced_part(a.p[i], k)); }
     )
 }
 
-// Products of the low 32 bits, and a part of moduli. GCC makes shifts and sums of a product by a constant, which take longer,
-// so it does not see that this is one.
+// Products of the low 32 bits, and a part of moduli. GCC makes shifts and sums of a product by a constant, which take
+// longer, so it does not see that this is one.
 #[tactic(auto, unfolding(crate::specs::WordFront::vector_low_text))]
 fn put_vector_low(out: &mut Vec<u8>) -> Result<(), AllocError>
     ensures { OnOk result (out.new.items ≡ out.old.items ++ vector_low_text) }
@@ -252,7 +254,8 @@ fn put_vector_tile(out: &mut Vec<u8>) -> Result<(), AllocError>
 #define EXCHANGE(d) for (int i = 0; i < V; i++) for (int k = 0; k < V / P; k++) \\
 if (!(i & d)) EXCHANGED(b[i].p[k], b[i + d].p[k], d)
 INLINE void tile(vec *b) {
-for (int i = 0; i < V; i++) for (int k = i / P + 1; k < V / P; k++) swap(b[i].p + k, b[P * k + i % P].p + i / P);
+for (int i = 0; i < V; i++) for (int k = i / P + 1; k < V / P; k++)
+swap(b[i].p + k, b[P * k + i % P].p + i / P);
 #if P > 8
 EXCHANGE(8)
 #endif
