@@ -6,7 +6,7 @@
 The functions splat, load, store, add, sub, neg, mul, reduced and tile come from texts that spiral-fast writes of small
 listings: for words of 32, 52 and 64 bits, for 1, 2, 3, 4, 8 and 16 lanes, and with rough and exact high halves. GCC and
 Clang compile each text at -O0 and -O3, with each instruction set that the machine has, and GCC for AArch64 where it and
-qemu-aarch64 are there. The words are corners and many others. SPIRAL_FAST names the program (bin/spiral-fast).
+qemu-aarch64 are there. The words are corners and many others.
 """
 
 import os
@@ -20,7 +20,7 @@ from concurrent.futures import ThreadPoolExecutor
 from itertools import product
 
 HERE = os.path.dirname(os.path.abspath(__file__))
-FAST = os.environ.get("SPIRAL_FAST", f"{HERE}/../bin/spiral-fast")
+FAST = f"{HERE}/../bin/spiral-fast"
 LANES = (1, 2, 3, 4, 8, 16)
 BLOCK = 480  # words for each amount: a multiple of all these lanes
 ROUGH = "#define ROUGH 1\n", "#define ROUGH 0\n"
