@@ -11,14 +11,15 @@ cc -O1 -shared -fPIC -Wall -Wextra -o "$work/refuse.so" "$top/checks/refuse.c" -
 
 # refused_in_turn REQUEST PROGRAM WORD ..: the call with these words on $work/input
 refused_in_turn() {
-  local request=$1 program=$2 number=1 status
+  local request=$1 program=$2 number=1 status note refused
   shift 2
   "$program" "$@" <"$work/input" >"$work/wanted"
-  echo "12 $(basename "$program"): out of memory" >"$work/refused"
+  refused="12 $(basename "$program"): out of memory"
   while true; do
     status=0
     REFUSED=$number LD_PRELOAD=$work/refuse.so "$program" "$@" <"$work/input" >"$work/got" 2>"$work/note" || status=$?
-    [ ! -s "$work/got" ] && echo "$status $(cat "$work/note")" | cmp -s - "$work/refused" || break
+    mapfile -t note <"$work/note"
+    [ ! -s "$work/got" ] && [ "$status ${note[*]}" = "$refused" ] || break
     number=$((number + 1))
   done
   if [ "$status" -ne 0 ] || [ -s "$work/note" ] || ! cmp -s "$work/got" "$work/wanted" || [ "$number" -eq 1 ]; then
