@@ -3,7 +3,7 @@ use Rattle.nests.proofs.Bools.{both_kept}
 use Rattle.std.proofs.Common.{◌≡◌, ◌≢◌, ℕ, zero, suc, ◌+◌, ◌*◌, ◌<◌, ◌≤◌, true, ◌&&◌, List, []}
 use Rattle.std.proofs.Common.{◌∷◌, ◌++◌, length, refl, sym, ap, ap₂, ◌∙◌, subst, arith, eq-eqb}
 use Rattle.std.proofs.Common.{le-leb}
-use Rattle.std.specs.Prelude.{slice_index, nat_le, ◌==◌, if◌then◌else◌, ◌-◌}
+use Rattle.std.specs.Prelude.{slice_index, nat_le, ◌==◌, if◌then◌else◌}
 use Rattle.std.proofs.lemmas.Bool.{and_from}
 use Rattle.icode.specs.Expression.{Numbers, alone, with_part, with_sum, sum_numbers, parts_numbers}
 use Rattle.icode.specs.Actions.{Step, step_of, steps_of_body}

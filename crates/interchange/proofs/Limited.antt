@@ -1,6 +1,6 @@
 -- Interchanged loops stand within the limits of programs.
 use Rattle.nests.proofs.Bools.{three_true, both_kept, later_kept, by_test}
-use Rattle.std.proofs.Common.{◌*◌, ◌≡◌, ◌≢◌, ℕ, suc, ◌+◌, ◌<◌, ◌≤◌, List, [], ◌∷◌, true, ap}
+use Rattle.std.proofs.Common.{◌≡◌, ◌≢◌, ℕ, suc, ◌+◌, ◌<◌, ◌≤◌, List, [], ◌∷◌, true, ap}
 use Rattle.std.proofs.Common.{sym, ap₂, ◌∙◌, arith, refl, lt-ltb, map, length}
 use Rattle.std.specs.Prelude.{◌&&◌, nat_lt, nat_le, max}
 use Rattle.std.specs.List.{list_all}

@@ -1,11 +1,11 @@
 -- Nests whose loops are sunk and ordered, as definitions and as code see them.
 use Rattle.std.proofs.Common.{◌≡◌, refl, ap, ℕ, ◌+◌, List, [], ◌∷◌, true, false, ap₂, ◌∙◌, length, suc, map, zero, ◌<◌}
-use Rattle.std.proofs.Common.{Bool, sym, arith, get_or, ◌≢◌, ◌≤◌}
+use Rattle.std.proofs.Common.{Bool, sym, arith, get_or}
 use Rattle.icode.specs.Plain.{PlainBody, Loop, Do, NoStmts, AndStmts, PlainStmt, body_of}
 use Rattle.nests.specs.Nests.{counts_in, round_in, looped}
 use Rattle.interchange.specs.Interchanged.{Nest, within, sunk, ordered, interchanged_nest, interchanged_body}
 use Rattle.interchange.specs.Interchanged.{nest_stmt, steps_less}
-use Rattle.std.specs.Prelude.{◌*◌, ◌&&◌, if◌then◌else◌}
+use Rattle.std.specs.Prelude.{if◌then◌else◌}
 use Rattle.interchange.specs.Exchanged.{exchanged_round, exchanged_op}
 use Rattle.nests.specs.Rounds.{first_store, first_load}
 use Rattle.nests.specs.View.{are_independent_in, loops_in, one_loop}
@@ -15,7 +15,6 @@ use Rattle.std.specs.List.{list_all}
 use Rattle.std.proofs.lemmas.List.Elements.{All-get_or}
 use Rattle.std.proofs.lemmas.List.Sums.{AllPass-from_list_all}
 use Rattle.icode.proofs.Bools.{both_true}
-use Rattle.icode.specs.declared.program.Stmt.TheVariants as stmts
 use Rattle.nests.proofs.Counts.{looped_is, round-inner, inner-round, counts-looped, round-looped, independent-in}
 
 -- ---- the loops of a body: their counts, and the statements in the innermost, as definitions and as code see them

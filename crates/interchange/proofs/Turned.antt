@@ -1,6 +1,5 @@
 -- The values of the loops of a nest where two of them are interchanged.
-use Rattle.std.proofs.Common.{◌≡◌, ◌≢◌, ◌⊎◌, ℕ, zero, suc, ◌<◌, List, [], ◌∷◌, ◌++◌, length, refl, ap}
-use Rattle.std.proofs.Common.{◌+◌, ◌*◌, ◌≤◌, ◌∙◌}
+use Rattle.std.proofs.Common.{◌≡◌, ℕ, zero, suc, List, [], ◌∷◌, ◌++◌, length, refl, ap}
 use Rattle.icode.specs.CodeLaws.Nests.{AreInRange}
 use Rattle.nests.proofs.Apart.{turned}
 

@@ -1,5 +1,5 @@
 -- What becomes of places, operations and rounds where two loops, one in the other, are interchanged.
-use Rattle.std.specs.Prelude.{ℕ, ◌+◌, ◌==◌, ◌&&◌, if◌then◌else◌}
+use Rattle.std.specs.Prelude.{ℕ, ◌+◌, ◌==◌, if◌then◌else◌}
 use Rattle.icode.specs.Plain.{PlainExpr, PlainParts, PlainOp, PlainBody, Sum, NoParts, AndParts, Var}
 use Rattle.icode.specs.Plain.{Do, NoStmts, AndStmts}
 use Rattle.nests.specs.Places.{placed_op}

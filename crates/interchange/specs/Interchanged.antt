@@ -1,6 +1,6 @@
 -- Loop interchange (Allen and Kennedy, 1984): of loops, one in the other, whose rounds are independent, those whose
 -- rounds load from places nearer to one another become the inner ones.
-use Rattle.std.specs.Prelude.{ℕ, ◌+◌, ◌&&◌, Bool, false, List, [], ◌∷◌, map, if◌then◌else◌, ◌*◌, ◌==◌}
+use Rattle.std.specs.Prelude.{ℕ, ◌+◌, Bool, false, List, [], ◌∷◌, map, if◌then◌else◌}
 use Rattle.std.specs.Prelude.{nat_lt, Option, Some, None}
 use Rattle.std.specs.List.{list_all}
 use Rattle.icode.specs.Plain.{PlainStmt, PlainBody, PlainProgram, Loop, Do, NoStmts, AndStmts, PlainParts}

@@ -1,5 +1,5 @@
 -- What code makes of a nest where loops are interchanged.
-use Rattle.std.specs.Prelude.{ℕ, ◌+◌, ◌*◌, ◌==◌, ◌&&◌, Bool, true, nat_lt, Option}
+use Rattle.std.specs.Prelude.{ℕ, ◌==◌, ◌&&◌, Bool, true, nat_lt, Option}
 use Rattle.std.specs.Prelude.{Some, None, if◌then◌else◌}
 use Rattle.icode.specs.Plain.{PlainPart, Var, PlainStmt, PlainBody, Loop, Do, NoStmts, AndStmts}
 use Rattle.interchange.specs.Exchanged.{exchanged_op, exchanged_round}

@@ -16,7 +16,7 @@ use Rattle.loop_lanes.specs.View.{stride_in, plain_ops}
 use Rattle.loop_lanes.specs.Lanes.{laned_nest, laned_body}
 use Rattle.loop_lanes.proofs.Arrays.{step_before}
 use Rattle.nests.proofs.Linear.{parts_equal}
-use Rattle.nests.proofs.Straight.{range-more, whole}
+use Rattle.nests.proofs.Straight.{range-more}
 
 -- ---- numbers
 

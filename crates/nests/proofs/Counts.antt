@@ -4,7 +4,7 @@ use Rattle.std.proofs.Common.{Bool, sym, drop, arith, get_or, ◌≢◌, Vec, Gl
 use Rattle.icode.specs.Plain.{PlainBody, Loop, Do, NoStmts, AndStmts, PlainParts, PlainStmt, plain_op}
 use Rattle.icode.specs.Plain.{plain_stmt, plain_body}
 use Rattle.nests.specs.Nests.{counts_in, round_in, looped}
-use Rattle.std.specs.Prelude.{◌*◌, ◌&&◌, nat_le, Option, Some, None, if◌then◌else◌}
+use Rattle.std.specs.Prelude.{◌*◌, ◌&&◌, nat_le, Option, Some, None}
 use Rattle.nests.specs.Places.{stride, are_linear}
 use Rattle.nests.specs.Rounds.{Stored, are_nested, last_stride, are_placed, are_apart}
 use Rattle.nests.specs.Rounds.{are_independent, is_fresh, put_after, are_fresh}

@@ -1,11 +1,10 @@
 -- Parts, loops and statements within the limits of programs.
-use Rattle.std.proofs.Common.{◌≡◌, ℕ, zero, suc, ◌<◌, ◌≤◌, List, [], ◌∷◌, ◌++◌, Bool, true}
+use Rattle.std.proofs.Common.{◌≡◌, ℕ, zero, suc, ◌<◌, ◌≤◌, List, [], ◌∷◌, Bool, true}
 use Rattle.std.proofs.Common.{length, get_or, refl, ap, ◌∙◌, arith, mul-le-mul_left, ◌*◌}
-use Rattle.std.proofs.Common.{◌≢◌, ◌+◌, ltb-true, lt-ltb}
-use Rattle.std.specs.Prelude.{◌==◌, if◌then◌else◌, ◌&&◌, nat_lt, nat_le}
+use Rattle.std.proofs.Common.{◌+◌, ltb-true, lt-ltb}
+use Rattle.std.specs.Prelude.{◌&&◌, nat_lt, nat_le}
 use Rattle.std.specs.List.{list_all}
 use Rattle.icode.specs.declared.program.Stmt.{Stmt}
-use Rattle.icode.specs.declared.program.Stmt.TheVariants as stmts
 use Rattle.icode.specs.Limits.{is_stmt_within, is_body_within, rank, next_rank, is_small, is_small_positive}
 use Rattle.icode.specs.Limits.{is_part_within, are_parts_within}
 use Rattle.icode.specs.Plain.{PlainPart, PlainStmt, PlainBody, AndParts, Var, Loop, NoStmts, AndStmts}

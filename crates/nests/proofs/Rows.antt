@@ -2,7 +2,7 @@
 use Rattle.nests.proofs.Bools.{three_true}
 use Rattle.std.proofs.Common.{◌≡◌, ℕ, ◌+◌, ◌<◌, true, ◌&&◌, List, refl, ap, ◌∙◌, subst, eqb-true, ltb-true}
 use Rattle.std.proofs.Common.{leb-true, ◌≤◌, [], ◌∷◌, ◌++◌, Contains, flat_map, sym, All, length, arith, append-nil}
-use Rattle.std.proofs.Common.{append_assoc, length-append, ◌*◌, ◌≢◌, ◌-◌, ◌/◌, ◌%◌, ◌^◌, replicate}
+use Rattle.std.proofs.Common.{append_assoc, length-append, ◌-◌, replicate}
 use Rattle.std.specs.Prelude.{nat_lt, nat_le, ◌==◌, ◌-◌, replicate, slice_index}
 use Rattle.icode.specs.Actions.{actions_of, step_of, steps_of_body, Step, StepFits, lane_factors}
 use Rattle.icode.specs.Plain.{PlainOp, PlainBody, PlainProgram, Load, Store, Zero, Add, Sub, Neg, MulConst, MulTable}
@@ -25,7 +25,6 @@ use Rattle.operators.specs.Sum.{list_below}
 use Rattle.operators.proofs.Lists.{length-list_below, at-list_below}
 use Rattle.icode.specs.CodeLaws.Nests.{AreInRange}
 use Rattle.nests.specs.Nests.{looped}
-use Rattle.icode.specs.declared.action.Action.TheVariants as actions
 
 pub one-source : (r next x : ℕ) → ((r == next) && nat_lt x next) ≡ true → (r ≡ next) × (x < next)
 one-source r next x h = let two = both_true (r == next) (nat_lt x next) h in (eqb-true r next two.0, ltb-true x next two.1)

@@ -1,6 +1,6 @@
 -- Rounds of a loop: straight statements. What makes rounds independent of one another.
-use Rattle.std.specs.Prelude.{ℕ, ◌+◌, ◌*◌, ◌==◌, ◌&&◌, ◌||◌, Bool, true, false, not, nat_le, List, [], ◌∷◌}
-use Rattle.std.specs.Prelude.{if◌then◌else◌, nat_lt, Option, Some, None}
+use Rattle.std.specs.Prelude.{ℕ, ◌+◌, ◌*◌, ◌==◌, ◌&&◌, Bool, true, false, not, nat_le, List, [], ◌∷◌}
+use Rattle.std.specs.Prelude.{nat_lt, Option, Some, None}
 use Rattle.icode.specs.Plain.{PlainParts, PlainOp, PlainBody, Sum, Load, Store}
 use Rattle.icode.specs.Plain.{Zero, Add, Sub, Neg, MulConst, MulTable, Tile, Loop, Do, NoStmts, AndStmts}
 use Rattle.nests.specs.Places.{is_linear, stride, same_parts, are_linear}

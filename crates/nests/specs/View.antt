@@ -1,6 +1,6 @@
 -- What the code's values are among the definitions, and the loops in a body as code sees them.
-use Rattle.std.specs.Prelude.{ℕ, ◌+◌, ◌*◌, ◌==◌, ◌&&◌, Bool, true, false, nat_le, List, length, map, Option}
-use Rattle.std.specs.Prelude.{Some, None, if◌then◌else◌}
+use Rattle.std.specs.Prelude.{ℕ, ◌+◌, ◌*◌, ◌&&◌, Bool, true, false, nat_le, List, length, map, Option}
+use Rattle.std.specs.Prelude.{Some, None}
 use Rattle.icode.specs.declared.program.Array.{Array}
 use Rattle.icode.specs.declared.program.Part.{Part}
 use Rattle.icode.specs.Plain.{PlainParts, PlainBody, Loop, NoStmts, AndStmts, parts_of}

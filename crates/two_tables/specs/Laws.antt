@@ -1,5 +1,5 @@
 -- The statement of the law of tables in two factors.
-use Rattle.std.specs.Prelude.{◌≡◌, ℕ}
+use Rattle.std.specs.Prelude.{ℕ}
 use Rattle.icode.specs.Actions.{PlainFits, plain_code}
 use Rattle.icode.specs.Machine.{IsApart}
 use Rattle.icode.specs.Plain.{PlainProgram}
