@@ -3,6 +3,7 @@
 
 pub mod choose;
 mod in_place;
+mod input;
 pub mod laws;
 mod needs;
 mod note;
@@ -13,4 +14,6 @@ mod single;
 mod word_print;
 
 pub use in_place::work_in_place;
+pub use input::input_writer;
+pub use program::WordProgram;
 pub use word_print::{Form, print_words};

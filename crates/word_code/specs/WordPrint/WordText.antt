@@ -15,7 +15,8 @@ use Rattle.word_code.specs.WordPrint.TextForm.{TextForm, with_arrays, named_func
 use Rattle.word_code.specs.WordPrint.FunctionText.{each_from, static_phase_text, parameters_text}
 use Rattle.word_code.specs.WordPrint.FunctionText.{functions_to_link_text, capital, guard_text, lengths_text}
 use Rattle.word_code.specs.WordPrint.FunctionText.{counts_text, asked_text, declared_functions_text, word_type_text}
-use Rattle.word_code.specs.WordPrint.FunctionText.{linkage_text}
+use Rattle.word_code.specs.WordPrint.FunctionText.{line_bytes_text, linkage_text}
+use Rattle.word_code.specs.Bytes.{bytes_of_line}
 
 -- a place: its constant and its parts. The constant is unsigned, of 64 bits, and each sum has one, so sums and what is made of
 -- them wrap at the same base as in programs
@@ -185,8 +186,9 @@ abbrev pub named_header_text : List ℕ → PlainWordProgram → List ℕ
 named_header_text name p =
     let capitals = map capital name in
     word_header_text p ++ guard_text capitals ++ lengths_text capitals p.frame.size (words_of_array p)
+    ++ line_bytes_text capitals (bytes_of_line p)
     ++ counts_text capitals p.frame.modulus p.frame.procs (length p.phases)
-    ++ linkage_text (asked_text capitals ++ declared_functions_text name (word_type_text (p.width.half == 65536)))
+    ++ linkage_text (asked_text capitals name ++ declared_functions_text name (word_type_text (p.width.half == 65536)))
 
 abbrev pub words_text : TextForm → PlainWordProgram → List ℕ
 words_text with_arrays p = arrays_and_phases_text p

@@ -14,7 +14,7 @@ use crate::program::{WordProgram, WordStmt};
 use crate::word_print::form::Form;
 use crate::word_print::front::{put_arrays, put_functions, put_sizes};
 use crate::word_print::function::{put_functions_to_link, static_phase};
-use crate::word_print::header::{in_capitals, put_counts, put_guard, put_lengths, put_linked};
+use crate::word_print::header::{in_capitals, put_counts, put_guard, put_lengths, put_line_bytes, put_linked};
 use crate::word_print::operations::{put_op, put_reductions};
 use listing_text::{Header, array_words, put_header, put_numbered, put_word};
 use memory::NoMemory;
@@ -233,6 +233,7 @@ fn print_header(alloc: Global, name: &[u8], program: &WordProgram) -> Result<Vec
     put_first(&mut out, program)?;
     put_guard(&mut out, &capitals)?;
     put_lengths(&mut out, &capitals, program.size, words)?;
+    put_line_bytes(&mut out, &capitals, program.line, program.half)?;
     put_counts(&mut out, &capitals, program.modulus, program.procs, phases)?;
     put_linked(&mut out, &capitals, name, program.half == 65536)?;
     Ok(out)

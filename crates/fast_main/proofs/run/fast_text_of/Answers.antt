@@ -8,13 +8,14 @@ use Rattle.word_code.specs.WordPrint.WordText.{words_text}
 use Rattle.word_code.specs.WordPrint.WordNests.{are_word_phases_within}
 use Rattle.word_code.proofs.WordPrint.Nests.{quickened_nests}
 use Rattle.code_check.proofs.Phases.{limits_of}
+use Rattle.fast_main.specs.Translation.{words_for}
 use Rattle.fast_main.proofs.Faithful.{fits_from, allowed_from, words_from, sound_words}
 use Rattle.fast_main.proofs.Rerouted.{in_place_nests}
 use Rattle.fast_main.proofs.run.fast_text_of.Goals as goal
 
 pub work_in_place-requires : goal.work_in_place-requires
 work_in_place-requires c =
-    record { fits = fits_from c.args.options.size c.args.options.lanes c.args.program c.in_ok-program.program c.requires.lanes c.in_ok-program.ensures c.requires.fits c.requires.apart }
+    record { fits = fits_from c.args.size c.args.options.lanes c.args.program c.in_ok-program.program c.requires.lanes c.in_ok-program.ensures c.requires.fits c.requires.apart }
 
 pub print_words-requires-clause-nests : goal.print_words-requires-clause-nests
 print_words-requires-clause-nests c =
@@ -22,22 +23,23 @@ print_words-requires-clause-nests c =
     ap (λ (w : PlainWordProgram). are_word_phases_within w.phases) c.in_ok-words-2.ensures.made
     ∙ in_place_nests (plain_program program) (plain_word_program c.in_ok-words.words)
     ∙ ap (λ (w : PlainWordProgram). are_word_phases_within w.phases) c.in_ok-words.ensures.made
-    ∙ quickened_nests (laziness_for c.args.options.size program.modulus program.lanes) (plain_program program) program.statements
+    ∙ quickened_nests (laziness_for c.args.size program.modulus program.lanes) (plain_program program) program.statements
 
 pub returns-clause-text : goal.returns-clause-text
 returns-clause-text c =
     c.in_ok-text.ensures
     ∙ ap (words_text (text_form c.args.options.form))
-    (words_from c.args.options.size c.args.options.lanes c.args.program c.in_ok-program.program c.requires.lanes c.in_ok-program.ensures c.requires.fits c.requires.apart
-    c.in_ok-words.words c.in_ok-words-2.words c.in_ok-words.ensures.made c.in_ok-words-2.ensures.made)
+    (words_from c.args.size c.args.options.lanes c.args.program c.in_ok-program.program c.requires.lanes c.in_ok-program.ensures c.requires.fits c.requires.apart
+    c.in_ok-words.words c.in_ok-words-2.words c.in_ok-words.ensures.made c.in_ok-words-2.ensures.made
+    ∙ ap (λ size. words_for size c.args.options.lanes (plain_program c.args.program)) c.requires.size)
 
 pub returns-clause-sound : goal.returns-clause-sound
 returns-clause-sound c =
-    sound_words c.args.options.size c.args.options.lanes (plain_program c.args.program) c.requires.lanes
+    sound_words c.args.size c.args.options.lanes (plain_program c.args.program) c.requires.lanes
     (limits_of c.args.program) c.requires.fits c.requires.apart c.requires.allowed
 
 pub make_fast-requires : goal.make_fast-requires
 make_fast-requires c =
     record {
-      allowed = allowed_from c.args.options.size c.args.options.lanes c.args.program c.in_ok-program.program c.requires.lanes c.in_ok-program.ensures c.requires.fits c.requires.apart c.requires.allowed;
+      allowed = allowed_from c.args.size c.args.options.lanes c.args.program c.in_ok-program.program c.requires.lanes c.in_ok-program.ensures c.requires.fits c.requires.apart c.requires.allowed;
     }
