@@ -21,7 +21,7 @@ use Rattle.listing_text.specs.Texts.{is_listing}
 use Rattle.listing_text.proofs.ListingReads.{listing_judges}
 use Rattle.word_code.specs.declared.choose.WordSize.{WordSize}
 use Rattle.word_code.specs.Choice.{allows, size_for}
-use Rattle.word_code.specs.WordPrint.TextForm.{TextForm}
+use Rattle.fast_text.specs.TextForm.{TextForm}
 use Rattle.fast_main.specs.declared.status.Status.{Status}
 use Rattle.fast_main.specs.declared.status.Status.TheVariants.{InputWritten, ListingSyntax, Success, TooLong, Usage}
 use Rattle.fast_main.specs.declared.status.Status.TheVariants.{WideModulus}

@@ -4,8 +4,8 @@ use Rattle.icode.specs.Plain.{PlainOp, PlainProgram, Load}
 use Rattle.word_code.specs.InPlace.InPlace.{in_place, routes_of}
 use Rattle.word_code.specs.InPlace.Routes.{rerouted_op, rerouted_stmt, rerouted_body, rerouted_phase}
 use Rattle.word_code.specs.WordProgram.{WordStmt, WordBody, PlainWordProgram, Loop, Do, NoStmts, AndStmts}
-use Rattle.word_code.specs.WordPrint.WordNests.{is_tile_small, is_word_nest_within, are_word_nests_within}
-use Rattle.word_code.specs.WordPrint.WordNests.{are_word_phases_within}
+use Rattle.fast_text.specs.WordNests.{is_tile_small, is_word_nest_within, are_word_nests_within}
+use Rattle.fast_text.specs.WordNests.{are_word_phases_within}
 
 tile-same : (route : _) (op : PlainOp) → is_tile_small (rerouted_op route op) ≡ is_tile_small op
 tile-same route (Load register array place) = refl

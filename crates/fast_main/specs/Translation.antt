@@ -22,8 +22,8 @@ use Rattle.word_code.specs.FreshWords.{word_results_among}
 use Rattle.word_code.specs.Input.{input_writer}
 use Rattle.word_code.specs.WordMachine.{under, word_results}
 use Rattle.word_code.specs.WordProgram.{PlainWordProgram, word_code}
-use Rattle.word_code.specs.WordPrint.TextForm.{TextForm, with_arrays, named_function, named_header}
-use Rattle.word_code.specs.WordPrint.WordText.{words_text}
+use Rattle.fast_text.specs.TextForm.{TextForm, with_arrays, named_function, named_header}
+use Rattle.fast_text.specs.WordText.{words_text}
 use Rattle.fast_main.specs.declared.status.Status.{Status}
 use Rattle.fast_main.specs.declared.status.Status.TheVariants.{InputWritten}
 

@@ -6,7 +6,7 @@ ghost use Rattle.icode.specs.Program.{plain_program, code_of, Fits};
 ghost use Rattle.io_edge.specs.Faults.{Reports};
 ghost use Rattle.word_code.specs.Choice.{allows, size_for};
 ghost use Rattle.word_code.specs.View.{plain_word_program};
-ghost use Rattle.word_code.specs.WordPrint.TextForm.{text_form};
+ghost use Rattle.fast_text.specs.TextForm.{text_form};
 ghost use Rattle.fast_main.specs.FastWords.View.{plain_options};
 ghost use Rattle.fast_main.specs.Outcome.{IsRefused, IsTranslated, IsInside, IsDefined};
 ghost use Rattle.fast_main.specs.Outcome.{AreJudged, HasReadListing};
@@ -22,13 +22,15 @@ use crate::rows::write_note;
 use crate::words::bits_of;
 use code_check::verify;
 use data_stream::read_part;
+use fast_text::{Form, print_words};
 use icode::program::Program;
 use io_edge::{Feed, Sink, Source, write_all};
 use listing_text::read_listing;
 use memory::NoMemory;
 use std::alloc::Global;
 use word_code::choose::{WordSize, make_fast, size_for};
-use word_code::{Form, WordProgram, input_writer, print_words, work_in_place};
+use word_code::program::WordProgram;
+use word_code::{input_writer, work_in_place};
 
 /// How many bytes a listing has at most.
 pub const LISTING_LIMIT: u64 = 1 << 26;

@@ -1,4 +1,3 @@
-pub mod WordPrint
 pub mod InPlace
 pub mod Arithmetic
 pub mod Allowed

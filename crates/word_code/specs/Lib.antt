@@ -1,4 +1,3 @@
-pub mod WordPrint
 pub mod InPlace
 pub mod Needs
 pub mod Words

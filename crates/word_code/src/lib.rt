@@ -1,4 +1,4 @@
-//! Loop code on words: lazy residues, products by known factors, passes in place, and its C text.
+//! Loop code on words: lazy residues, products by known factors, and passes in place.
 #![tactic(auto)]
 
 pub mod choose;
@@ -7,13 +7,10 @@ mod input;
 pub mod laws;
 mod needs;
 mod note;
-mod program;
+pub mod program;
 mod quicken;
 mod settle;
 mod single;
-mod word_print;
 
 pub use in_place::work_in_place;
 pub use input::input_writer;
-pub use program::WordProgram;
-pub use word_print::{Form, print_words};

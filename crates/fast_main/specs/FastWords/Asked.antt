@@ -7,7 +7,7 @@ use Rattle.clap.specs.Words.{Row, Text, fault_of, first_of, matches_of}
 use Rattle.clap.specs.Walk.{is_empty}
 use Rattle.word_code.specs.declared.choose.WordSize.{WordSize}
 use Rattle.word_code.specs.declared.choose.WordSize.TheVariants.{Of32, Of52, Of64}
-use Rattle.word_code.specs.WordPrint.TextForm.{TextForm, with_arrays, named_function, named_header}
+use Rattle.fast_text.specs.TextForm.{TextForm, with_arrays, named_function, named_header}
 use Rattle.fast_main.specs.FastWords.CommandLine.{fast_app}
 use Rattle.fast_main.specs.FastWords.Names.{is_free_name}
 

@@ -1,5 +1,5 @@
 -- What a call is asked for, as plain data.
-use Rattle.word_code.specs.WordPrint.TextForm.{text_form}
+use Rattle.fast_text.specs.TextForm.{text_form}
 use Rattle.fast_main.specs.declared.fast_words.options.Options.{Options}
 use Rattle.fast_main.specs.FastWords.Asked.{Asked}
 

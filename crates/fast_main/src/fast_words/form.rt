@@ -1,10 +1,10 @@
 // Which text the words ask for.
 ghost use Rattle.std.specs.Prelude.{◌≡◌, option_map};
-ghost use Rattle.word_code.specs.WordPrint.TextForm.{text_form};
+ghost use Rattle.fast_text.specs.TextForm.{text_form};
 ghost use Rattle.fast_main.specs.FastWords.Asked.{named_form, form_by};
 
 use crate::fast_words::names::is_free_name;
-use word_code::Form;
+use fast_text::Form;
 
 fn named_form<'a>(wants_header: bool, name: &'a str) -> Form<'a>
     ensures { text_form result ≡ named_form wants_header name.entry.now }

@@ -1,7 +1,7 @@
 // The options of a call.
 ghost use Rattle.std.specs.Prelude.{◌≡◌, Err, IfOk, IfSome, None, Some, option_map, map, string_bytes};
 ghost use Rattle.clap.specs.Words.{found_of, rows_of};
-ghost use Rattle.word_code.specs.WordPrint.TextForm.{text_form};
+ghost use Rattle.fast_text.specs.TextForm.{text_form};
 ghost use Rattle.fast_main.specs.declared.fast_words.options.Refusal.TheVariants.{NoMemory};
 ghost use Rattle.fast_main.specs.FastWords.Asked.{IsLaneCount, asked, together, size_named, size_in, lanes_named, lanes_in, form_in};
 ghost use Rattle.fast_main.specs.FastWords.View.{plain_options};
@@ -9,9 +9,9 @@ ghost use Rattle.fast_main.specs.FastWords.View.{plain_options};
 use crate::fast_words::form::form_by;
 use crate::fast_words::line::{is_given, option_in, parsed};
 use clap::ArgMatches;
+use fast_text::Form;
 use std::alloc::{AllocError, Global};
 use thiserror::Error;
-use word_code::Form;
 use word_code::choose::WordSize;
 
 /// What the words ask for: words of a size, if of one, how many lanes, and which text.

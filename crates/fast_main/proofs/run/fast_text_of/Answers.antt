@@ -3,10 +3,10 @@ use Rattle.icode.specs.Program.{plain_program}
 use Rattle.word_code.specs.WordProgram.{PlainWordProgram}
 use Rattle.word_code.specs.Choice.{laziness_for}
 use Rattle.word_code.specs.View.{plain_word_program}
-use Rattle.word_code.specs.WordPrint.TextForm.{text_form}
-use Rattle.word_code.specs.WordPrint.WordText.{words_text}
-use Rattle.word_code.specs.WordPrint.WordNests.{are_word_phases_within}
-use Rattle.word_code.proofs.WordPrint.Nests.{quickened_nests}
+use Rattle.fast_text.specs.TextForm.{text_form}
+use Rattle.fast_text.specs.WordText.{words_text}
+use Rattle.fast_text.specs.WordNests.{are_word_phases_within}
+use Rattle.fast_text.proofs.Nests.{quickened_nests}
 use Rattle.code_check.proofs.Phases.{limits_of}
 use Rattle.fast_main.specs.Translation.{words_for}
 use Rattle.fast_main.proofs.Faithful.{fits_from, allowed_from, words_from, sound_words}

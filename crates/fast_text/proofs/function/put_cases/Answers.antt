@@ -1,0 +1,7 @@
+use Rattle.fast_text.specs.FunctionText.{case_text}
+use Rattle.fast_text.proofs.Pieces.{one_more}
+use Rattle.fast_text.proofs.function.put_cases.Goals as goal
+
+pub loop-number-preserved : goal.loop-number-preserved
+loop-number-preserved c =
+    one_more (case_text c.args.name.now c.args.words) c.loop-number.out.items c.put_case.new.out.items _ c.args.phases c.loop-number.number c.loop-number-test.true c.loop-number.invariant c.in_ok-put_case.ensures

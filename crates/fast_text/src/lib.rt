@@ -1,0 +1,13 @@
+//! The C text of a program on words, in vectors of GCC and Clang.
+#![tactic(auto)]
+
+mod form;
+mod front;
+mod function;
+mod header;
+mod operations;
+mod places;
+mod printing;
+
+pub use form::Form;
+pub use printing::print_words;

@@ -1,6 +1,0 @@
-use Rattle.std.proofs.Common.{◌≡◌, ◌++◌, drop, map}
-use Rattle.word_code.specs.WordPrint.FunctionText.{capital}
-use Rattle.word_code.proofs.word_print.header.in_capitals.Given as goal
-
-abbrev pub invariant-loop-letter : goal.invariant-loop-letter
-invariant-loop-letter l = l.text.items ++ map capital (drop l.letter-index l.name) ≡ map capital l.name

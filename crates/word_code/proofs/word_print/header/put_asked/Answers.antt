@@ -1,8 +1,0 @@
-use Rattle.std.proofs.Common.{append_assoc}
-use Rattle.std.proofs.lemmas.Result.{IfOk-equal}
-use Rattle.word_code.proofs.word_print.header.put_asked.Goals as goal
-
-pub returns : goal.returns
-returns c =
-    IfOk-equal c.put_lines_told.result _ _ _ c.put_lines_told.ensures
-    (rw (c.in_ok-put_word.ensures, c.in_ok-put_results_told.ensures, c.in_ok-put_input_asked.ensures, c.in_ok-put_calls.ensures) (simp append_assoc))

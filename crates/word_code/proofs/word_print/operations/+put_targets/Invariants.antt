@@ -1,4 +1,0 @@
-use Rattle.word_code.proofs.word_print.operations.+put_targets.Given as goal
-
-abbrev pub decreases-put_targets : goal.decreases-put_targets
-decreases-put_targets l = l.count

@@ -1,6 +1,0 @@
-use Rattle.std.proofs.Common.{◌≡◌, ◌++◌, drop, flat_map}
-use Rattle.word_code.specs.WordPrint.WordText.{reduction_text}
-use Rattle.word_code.proofs.word_print.operations.put_reductions.Given as goal
-
-abbrev pub invariant-loop-reduction : goal.invariant-loop-reduction
-invariant-loop-reduction l = l.out.items ++ flat_map reduction_text (drop l.reduction-index l.before) ≡ l.fn.out.items ++ flat_map reduction_text l.before
