@@ -14,7 +14,7 @@ use crate::first_values::{put_callers_first_values, put_own_first_values};
 use crate::form::Form;
 use crate::front::{put_arrays, put_functions, put_sizes};
 use crate::function::{put_functions_to_link, static_phase};
-use crate::header::{in_capitals, put_counts, put_guard, put_lengths, put_linked};
+use crate::header::{in_capitals, put_counts, put_guard, put_lengths, put_line_bytes, put_linked};
 use crate::operations::{put_op, put_reductions};
 use listing_text::{Header, array_words, put_header, put_numbered, put_word};
 use memory::NoMemory;
@@ -246,6 +246,7 @@ fn print_header(
     put_first(&mut out, program)?;
     put_guard(&mut out, &capitals)?;
     put_lengths(&mut out, &capitals, program.size, words)?;
+    put_line_bytes(&mut out, &capitals, program.line, program.half)?;
     put_counts(&mut out, &capitals, program.modulus, program.procs, phases)?;
     put_callers_first_values(&mut out, fresh)?;
     put_linked(&mut out, &capitals, name, program.half == 65536)?;
