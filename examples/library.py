@@ -87,7 +87,7 @@ def comment(name, upper):
         f" * out: {upper}_WORDS words. The first {upper}_SIZE get the results, in the order of the listing (the natural one for",
         f" * transforms), below {upper}_MODULUS.",
         f" * work: {upper}_WORK words. No two of the three arrays overlap.",
-        " * out and work: 0 before each call, or any words if the listing loads none of them that it has not stored.",
+        " * out, work: any words before the first phase.",
         f" * A line has {upper}_LINE_BYTES bytes. Where each array begins at a multiple of that, no processor touches a line",
         " * that another one writes in the phase. Best at multiples of 64 bytes, too. */",
     ]

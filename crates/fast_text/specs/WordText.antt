@@ -181,7 +181,7 @@ arrays_and_phases_text fresh p =
 abbrev pub named_function_text : List ℕ → Bool → PlainWordProgram → List ℕ
 named_function_text name fresh p =
     front_text p ++ all_phases_text (static_phase_text name) parameters_text p
-    ++ first_values_text callers_arrays_text fresh
+    ++ first_values_text (callers_arrays_text fresh) fresh
     ++ functions_to_link_text name (words_of_array p) p.frame.procs (length p.phases)
 
 -- and its header
@@ -191,7 +191,7 @@ named_header_text name fresh p =
     word_header_text p ++ guard_text capitals ++ lengths_text capitals p.frame.size (words_of_array p)
     ++ line_bytes_text capitals (bytes_of_line p)
     ++ counts_text capitals p.frame.modulus p.frame.procs (length p.phases)
-    ++ first_values_text callers_arrays_text fresh
+    ++ first_values_text (callers_arrays_text fresh) fresh
     ++ linkage_text (asked_text capitals name ++ declared_functions_text name (word_type_text (p.width.half == 65536)))
 
 -- of a program that may read what is left over, or that does not
