@@ -3,3 +3,5 @@ pub mod TextForm
 pub mod FunctionText
 pub mod WordText
 pub mod WordNests
+pub mod WordReading
+pub mod WordTexts

@@ -9,6 +9,7 @@ ghost use Rattle.fast_text.specs.WordText.{loop_text, word_stmt_text, word_body_
 ghost use Rattle.fast_text.specs.FunctionText.{each_from};
 ghost use Rattle.fast_text.specs.TextForm.{text_form};
 ghost use Rattle.fast_text.specs.WordNests.{is_word_nest_within, are_word_nests_within, are_word_phases_within};
+ghost use Rattle.fast_text.specs.WordTexts.{IsSpellable, IsReadAs};
 
 use crate::form::Form;
 use crate::front::{put_arrays, put_functions, put_sizes};
@@ -238,12 +239,8 @@ fn print_header(alloc: Global, name: &[u8], program: &WordProgram) -> Result<Vec
     Ok(out)
 }
 
-/// The C text of a program on words, within the limits of programs on residues.
-pub fn print_words(
-    alloc: Global,
-    form: Form<'_>,
-    program: &WordProgram,
-) -> Result<Vec<u8>, NoMemory>
+// The text of this form.
+fn text_of(alloc: Global, form: Form<'_>, program: &WordProgram) -> Result<Vec<u8>, NoMemory>
     requires header { IsHeaderWithin program.now.size program.now.modulus program.now.procs
         program.now.line program.now.lanes program.now.regs }
     requires nests { IsTrue (are_word_phases_within (plain_word_phases program.now.phases.items)) }
@@ -255,4 +252,20 @@ pub fn print_words(
         Form::Function { name } => print_function(alloc, name.as_bytes(), program),
         Form::Header { name } => print_header(alloc, name.as_bytes(), program),
     }
+}
+
+/// The C text of a program on words. Where it has statements, it is read as that program.
+pub fn print_words(
+    alloc: Global,
+    form: Form<'_>,
+    program: &WordProgram,
+) -> Result<Vec<u8>, NoMemory>
+    requires { IsSpellable (plain_word_program program.now) }
+    ensures text { IfOk result
+        (λ text. text.items ≡ words_text (text_form form.entry) (plain_word_program program.now)) }
+    ensures read_back { IfOk result
+        (λ text. IsReadAs (text_form form.entry) text.items (plain_word_program program.now)) }
+{
+    let text = text_of(alloc, form, program)?;
+    Ok(text)
 }
