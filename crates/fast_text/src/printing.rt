@@ -9,6 +9,7 @@ ghost use Rattle.fast_text.specs.WordText.{loop_text, word_stmt_text, word_body_
 ghost use Rattle.fast_text.specs.FunctionText.{each_from};
 ghost use Rattle.fast_text.specs.TextForm.{text_form};
 ghost use Rattle.fast_text.specs.WordNests.{is_word_nest_within, are_word_nests_within, are_word_phases_within};
+ghost use Rattle.fast_text.specs.WordTexts.{IsSpellable, IsReadAs};
 
 use crate::first_values::{put_callers_first_values, put_own_first_values};
 use crate::form::Form;
@@ -253,9 +254,8 @@ fn print_header(
     Ok(out)
 }
 
-/// The C text of a program on words, within the limits of programs on residues. It says what arrays have to hold where a
-/// run begins: any words, of a program that is fresh.
-pub fn print_words(
+// The text of this form.
+fn text_of(
     alloc: Global,
     form: Form<'_>,
     fresh: bool,
@@ -272,4 +272,22 @@ pub fn print_words(
         Form::Function { name } => print_function(alloc, name.as_bytes(), fresh, program),
         Form::Header { name } => print_header(alloc, name.as_bytes(), fresh, program),
     }
+}
+
+/// The C text of a program on words. Where it has statements, it is read as that program. It says what arrays have to hold
+/// where a run begins: any words, of a program that is fresh.
+pub fn print_words(
+    alloc: Global,
+    form: Form<'_>,
+    fresh: bool,
+    program: &WordProgram,
+) -> Result<Vec<u8>, NoMemory>
+    requires { IsSpellable (plain_word_program program.now) }
+    ensures text { IfOk result
+        (λ text. text.items ≡ words_text (text_form form.entry) fresh (plain_word_program program.now)) }
+    ensures read_back { IfOk result
+        (λ text. IsReadAs (text_form form.entry) fresh text.items (plain_word_program program.now)) }
+{
+    let text = text_of(alloc, form, fresh, program)?;
+    Ok(text)
 }
