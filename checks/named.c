@@ -1,8 +1,8 @@
 /*
  * Runs two functions of `spiral-fast --name` for one transform, each in a thread of its own over arrays of its own, and
  * then the first one phase by phase, with a thread for each processor. Reads vectors of numbers from standard input, and
- * writes the line of each result. The three results have to be the same, where each byte of the arrays but the vector's is
- * 0xa5 before.
+ * writes the line of each result. The three results have to be the same, where each byte of the other
+ * arrays is 0xa5 before.
  *
  * checks/compile_named.sh says with which macros it is compiled.
  */
@@ -83,8 +83,6 @@ static int read_vector(void) {
 
 /* Words that are no residues, where the headers say that any may stand. */
 static void spoil(void) {
-    memset(in + SIZE, 165, sizeof in - SIZE * sizeof *in);
-    memset(second_in + SIZE, 165, sizeof second_in - SIZE * sizeof *second_in);
     memset(out, 165, sizeof out);
     memset(phased, 165, sizeof phased);
     memset(second_out, 165, sizeof second_out);

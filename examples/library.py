@@ -36,7 +36,7 @@ class Text:
         starts = dict(match.groups() for match in map(ARRAY.match, self.lines) if match)
         if not found or set(starts) != set("XYAB"):
             sys.exit("library.py: standard input is no C text of `spiral c`")
-        self.size, self.modulus, self.procs = map(int, found.groups()[:3])
+        self.size, self.modulus, self.procs, self.line = map(int, found.groups()[:4])
         self.words = int(starts["Y"])
         self.phases = sum(bool(PHASE.match(line)) for line in self.lines)
 
@@ -59,9 +59,10 @@ def function_file(text, name):
         elif not ARRAY.match(line):
             lines.append(rewritten(line, name))
     arrays = f"in, out, work, work + {text.words}"
-    lines.append(f"void {name}_phase(uint64_t k, uint64_t q, {HANDED_IN}) {{\nswitch (k) {{")
+    check = f"#ifdef CHECK\nfor (uint64_t n = 0; n < {text.words}; n++) if (in[n] >= M) __builtin_trap();\n#endif"
+    lines.append(f"void {name}_phase(uint64_t k, uint64_t q, {HANDED_IN}) {{\n{check}\nswitch (k) {{")
     lines += [f"case {k}: {name}_phase{k}(q, {arrays}); break;" for k in range(text.phases)]
-    lines.append(f"}}\n}}\nvoid {name}({HANDED_IN}) {{")
+    lines.append(f"}}\n}}\nvoid {name}({HANDED_IN}) {{\n{check}")
     each = f"for (uint64_t q = 0; q < {text.procs}; q++)"
     lines += [f"{each} {name}_phase{k}(q, {arrays});" for k in range(text.phases)]
     return "\n".join([*declared(lines, name), "}"]) + "\n"
@@ -77,12 +78,28 @@ def declarations(name):
     return [f"void {name}({HANDED_IN});", f"void {name}_phase(uint64_t k, uint64_t q, {HANDED_IN});"]
 
 
+def comment(name, upper):
+    """What the header says of calls and arrays, as that of `spiral-fast --name` does."""
+    return [
+        f"/* {name} does all phases, of each phase one processor after another. Threads call {name}_phase(k, q, ..)",
+        f" * for each phase k below {upper}_PHASES, with all q below {upper}_PROCS at once and a barrier after each k. Both leave the same.",
+        f" * in: {upper}_WORDS words below {upper}_MODULUS, which stay as they are. With -DCHECK the functions stop at a greater one.",
+        f" * out: {upper}_WORDS words. The first {upper}_SIZE get the results, in the order of the listing (the natural one for",
+        f" * transforms), below {upper}_MODULUS.",
+        f" * work: {upper}_WORK words. No two of the three arrays overlap.",
+        " * out, work: any words before the first phase.",
+        f" * A line has {upper}_LINE_BYTES bytes. Where each array begins at a multiple of that, no processor touches a line",
+        " * that another one writes in the phase. Best at multiples of 64 bytes, too. */",
+    ]
+
+
 def header_file(text, name):
     upper = name.upper()
     values = {
         "SIZE": text.size,
         "WORDS": text.words,
         "WORK": 2 * text.words,
+        "LINE_BYTES": 8 * text.line,
         "MODULUS": f"{text.modulus}ULL",
         "PROCS": text.procs,
         "PHASES": text.phases,
@@ -96,8 +113,7 @@ def header_file(text, name):
         "#ifdef __cplusplus",
         'extern "C" {',
         "#endif",
-        f"/* out, in: {upper}_WORDS words, those of in below {upper}_MODULUS; work: {upper}_WORK words;",
-        " * no two overlap; best at multiples of 64 bytes, and of a line where several processors share the work. */",
+        *comment(name, upper),
         *declarations(name),
         "#ifdef __cplusplus",
         "}",

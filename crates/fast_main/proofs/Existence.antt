@@ -20,16 +20,17 @@ use Rattle.listing_text.specs.Progress.{finish, step}
 use Rattle.listing_text.specs.Texts.{is_listing}
 use Rattle.listing_text.proofs.ListingReads.{listing_judges}
 use Rattle.word_code.specs.declared.choose.WordSize.{WordSize}
-use Rattle.word_code.specs.Choice.{allows}
+use Rattle.word_code.specs.Choice.{allows, size_for}
 use Rattle.fast_text.specs.TextForm.{TextForm}
 use Rattle.fast_main.specs.declared.status.Status.{Status}
-use Rattle.fast_main.specs.declared.status.Status.TheVariants.{ListingSyntax, Success, TooLong, Usage, WideModulus}
+use Rattle.fast_main.specs.declared.status.Status.TheVariants.{InputWritten, ListingSyntax, Success, TooLong, Usage}
+use Rattle.fast_main.specs.declared.status.Status.TheVariants.{WideModulus}
 use Rattle.fast_main.specs.FastWords.Asked.{Asked, IsLaneCount, asked, form_in, lanes_in, lanes_named, size_in}
 use Rattle.fast_main.specs.FastWords.Asked.{together}
 use Rattle.fast_main.specs.FastWords.CommandLine.{fast_app}
 use Rattle.fast_main.specs.Outcome.{IsAnswer, IsOutcome, IsOutcomeOfListing, IsTranslated}
 use Rattle.fast_main.specs.Status.{listing_limit, status_of_check}
-use Rattle.fast_main.specs.Translation.{AreSoundWords, fast_text}
+use Rattle.fast_main.specs.Translation.{AreSoundWords, KeepsInput, fast_text, wanted_words, writer_in}
 use Rattle.fast_main.specs.Words.{bits_of}
 use Rattle.fast_main.proofs.Faithful.{sound_words}
 
@@ -49,7 +50,7 @@ lanes-given None n e = inl (let is : n ≡ 1 = cc in is)
 lanes-given (Some word) n e =
     lanes-named (bytes_eq word _) (bytes_eq word _) (bytes_eq word _) (bytes_eq word _) n e
 
-lanes-together : (size : Option WordSize) (lanes : Option ℕ) (form : Option TextForm) (wanted : Asked) →
+lanes-together : (size : Option (Option WordSize)) (lanes : Option ℕ) (form : Option TextForm) (wanted : Asked) →
     together size lanes form ≡ Some wanted → lanes ≡ Some wanted.lanes
 lanes-together (Some size) (Some lanes) (Some form) wanted e =
     let is : record { size = size; lanes = lanes; form = form } ≡ wanted = cc in
@@ -85,29 +86,55 @@ HasAnswer right = (status : Status) × (text : List ℕ) × right status text
 
 module _ (wanted : Asked) (count : IsLaneCount wanted.lanes) (bytes : List ℕ) where
   pub translated : (p : PlainProgram) → is_listing bytes p → PassesCheck action_limit p →
-      allows wanted.size p.modulus ≡ true → IsTranslated wanted bytes (fast_text wanted p)
-  translated p listing passes allowed =
+      allows (size_for wanted.size p) p.modulus ≡ true → KeepsInput wanted p →
+      IsTranslated wanted bytes (fast_text wanted p)
+  translated p listing passes allowed keeps =
       record {
         program = p;
         listing = listing;
         passes = passes;
         allowed = allowed;
-        sound = passed_sound wanted.size wanted.lanes p count listing.0 passes allowed;
+        sound = passed_sound (size_for wanted.size p) wanted.lanes p count listing.0 passes allowed;
+        keeps = keeps;
         says = refl;
       }
 
-  by_size : (p : PlainProgram) → is_listing bytes p → PassesCheck action_limit p → (b : Bool) →
-      allows wanted.size p.modulus ≡ b → HasAnswer (IsAnswer wanted bytes)
-  by_size p listing passes true e = (Success, fast_text wanted p, inr (refl, translated p listing passes e))
-  by_size p listing passes false e = (
-    WideModulus (bits_of wanted.size),
+  by_writer : (p : PlainProgram) → is_listing bytes p → PassesCheck action_limit p →
+      allows (size_for wanted.size p) p.modulus ≡ true → (o : Option ℕ) →
+      writer_in wanted.form (wanted_words wanted p) ≡ o → HasAnswer (IsAnswer wanted bytes)
+  by_writer p listing passes allowed None e =
+      (Success, fast_text wanted p, inr (refl, translated p listing passes allowed e))
+  by_writer p listing passes allowed (Some phase) e = (
+    InputWritten phase,
     [],
-    inl (inr (inr (record { program = p; listing = listing; passes = passes; wide = e; says = refl })), refl),
+    inl (
+      inr (inr (inr (record {
+        program = p;
+        listing = listing;
+        passes = passes;
+        allowed = allowed;
+        written = (phase, e, refl);
+      }))),
+      refl,
+    ),
+  )
+
+  by_size : (p : PlainProgram) → is_listing bytes p → PassesCheck action_limit p → (b : Bool) →
+      allows (size_for wanted.size p) p.modulus ≡ b → HasAnswer (IsAnswer wanted bytes)
+  by_size p listing passes true e =
+      by_writer p listing passes e (writer_in wanted.form (wanted_words wanted p)) refl
+  by_size p listing passes false e = (
+    WideModulus (bits_of (size_for wanted.size p)),
+    [],
+    inl (
+      inr (inr (inl (record { program = p; listing = listing; passes = passes; wide = e; says = refl }))),
+      refl,
+    ),
   )
 
   by_check : (p : PlainProgram) → is_listing bytes p → HasAnswer (IsAnswer wanted bytes)
   by_check p listing = elim (decided action_limit p listing.0) [
-    | inl passes ↦ by_size p listing passes (allows wanted.size p.modulus) refl
+    | inl passes ↦ by_size p listing passes (allows (size_for wanted.size p) p.modulus) refl
     | inr (fault, told, cause) ↦ (
       status_of_check fault,
       [],
@@ -148,11 +175,12 @@ some_outcome words bytes = by_words (asked words) refl
         let found = listing_has wanted (lanes-asked words wanted e) (first_part bytes) in
         (found.0, found.1, inr (wanted, e, found.2))
 
--- the words ask for a text, and the listing is that of a program that passes, whose modulus they take
+-- the words ask for a text, and the listing is that of a program that passes, whose modulus they take and which keeps
+-- the input of a function
 pub translated_outcome : (words : List Text) (bytes : List ℕ) (wanted : Asked) (p : PlainProgram) →
     asked words ≡ Some wanted → length (first_part bytes) ≤ listing_limit → is_listing (first_part bytes) p →
-    PassesCheck action_limit p → allows wanted.size p.modulus ≡ true →
+    PassesCheck action_limit p → allows (size_for wanted.size p) p.modulus ≡ true → KeepsInput wanted p →
     IsOutcome words bytes Success (fast_text wanted p)
-translated_outcome words bytes wanted p e short listing passes allowed =
+translated_outcome words bytes wanted p e short listing passes allowed keeps =
     let count = lanes-asked words wanted e in
-    inr (wanted, e, inr (short, inr (refl, translated wanted count (first_part bytes) p listing passes allowed)))
+    inr (wanted, e, inr (short, inr (refl, translated wanted count (first_part bytes) p listing passes allowed keeps)))

@@ -1,7 +1,8 @@
 -- The words of a program that passes the check are sound.
-use Rattle.std.proofs.Common.{◌≡◌, ℕ, zero, suc, ◌+◌, ◌==◌, ◌&&◌, All, List, [], length, map, ◌<◌, ◌≤◌, Bool, true}
-use Rattle.std.proofs.Common.{false, inl, inr, refl, sym, ap, subst, ◌∙◌, arith, le_of_eq}
-use Rattle.std.specs.Prelude.{if◌then◌else◌, not, nat_lt, slice_index_or, Option, Some, None, ◌^◌}
+use Rattle.std.proofs.Common.{◌≡◌, ◌≢◌, ℕ, zero, suc, ◌+◌, ◌*◌, ◌%◌, ◌==◌, ◌&&◌, All, List, [], length, map, ◌<◌, ◌≤◌}
+use Rattle.std.proofs.Common.{Bool, true, false, inl, inr, refl, sym, ap, subst, ◌∙◌, arith, le_of_eq, eqb-true, ⊎_elim}
+use Rattle.std.specs.Prelude.{◌||◌, if◌then◌else◌, not, nat_lt, slice_index_or, Option, Some, None, ◌^◌}
+use Rattle.std.proofs.lemmas.Bool.{and_parts, or_cases}
 use Rattle.std.specs.List.{list_all}
 use Rattle.icode.specs.Actions.{PlainFits, plain_code}
 use Rattle.icode.specs.declared.program.Program.{Program}
@@ -37,12 +38,14 @@ use Rattle.two_tables.proofs.Law.{factored_leaves_the_same}
 use Rattle.nests.proofs.InPlace.{after, itself}
 use Rattle.word_code.specs.declared.program.WordProgram.{WordProgram}
 use Rattle.word_code.specs.declared.choose.WordSize.{WordSize}
-use Rattle.word_code.specs.Choice.{allows, fast_words, laziness_for}
+use Rattle.word_code.specs.declared.choose.WordSize.TheVariants.{Of32, Of64}
+use Rattle.word_code.specs.Bytes.{bytes_of_line}
+use Rattle.word_code.specs.Choice.{allows, fast_words, laziness_for, takes_narrow}
 use Rattle.word_code.specs.Laws.{IsLazyWithin}
 use Rattle.word_code.specs.View.{plain_word_program}
 use Rattle.fast_main.specs.FastWords.Asked.{IsLaneCount}
 use Rattle.fast_main.specs.Translation.{has_cheap_products, on_several, on_lanes, in_blocks, prepared, words_for}
-use Rattle.fast_main.specs.Translation.{AreSoundWords, IsFaithful}
+use Rattle.fast_main.specs.Translation.{AreSoundWords, HasWholeLines, IsFaithful, IsOrderFree}
 use Rattle.fast_main.proofs.Laned.{laned_by}
 
 -- ---- the prepared program
@@ -179,7 +182,7 @@ factored_is p =
     }
 
 prepared_is : (size : WordSize) (lanes : ℕ) (p : PlainProgram) → IsLaneCount lanes → Keeps (prepared size lanes p) p
-prepared_is size lanes p count = of_choice (has_cheap_products size (in_blocks lanes p).modulus)
+prepared_is size lanes p count = of_choice (has_cheap_products size)
   where
     of_choice : (b : Bool) → Keeps (if b then factored large_table (in_blocks lanes p) else in_blocks lanes p) p
     of_choice true =
@@ -260,3 +263,34 @@ sound_words size lanes p count limits fits apart allowed =
           (long ∙ sym law.size)
           ∙ faithful x turns orders (le_of_eq (sym long)) low;
     }
+
+-- words that leave what the program leaves, whatever the order of turns, leave the same in all of them
+pub order_free : (size : WordSize) (lanes : ℕ) (p : PlainProgram) → AreSoundWords size lanes p → IsOrderFree size lanes p
+order_free size lanes p sound x turns long low = sound.faithful x turns [] long low ∙ sym (sound.faithful x [] [] long low)
+
+-- ---- their lines
+
+-- the bytes of a line of words of this width, which has as many words as a line of p
+module _ (lanes : ℕ) (p : PlainProgram) (count : IsLaneCount lanes) where
+  line_is : (size : WordSize) → (prepared size lanes p).line ≡ p.line
+  line_is size = (prepared_is size lanes p count).line
+
+  narrow_lines : p.line % 16 ≡ 0 → bytes_of_line (words_for Of32 lanes p) % 64 ≡ 0
+  narrow_lines whole = subst (λ n. n * 4 % 64 ≡ 0) (sym (line_is Of32)) (omega (arith, whole))
+
+  wide_lines : p.line % 8 ≡ 0 → bytes_of_line (words_for Of64 lanes p) % 64 ≡ 0
+  wide_lines whole = subst (λ n. n * 8 % 64 ≡ 0) (sym (line_is Of64)) (omega (arith, whole))
+
+  -- words of 32 bits are taken with several processors where a line is a multiple of 16 words
+  narrow_whole : p.procs ≢ 1 → takes_narrow p ≡ true → p.line % 16 ≡ 0
+  narrow_whole several taken =
+      let parts = and_parts (nat_lt p.modulus 2147483648) ((p.procs == 1) || (p.line % 16 == 0)) taken in
+      ⊎_elim (λ one. absurd (several (eqb-true p.procs 1 one))) (λ whole. eqb-true (p.line % 16) 0 whole)
+      (or_cases (p.procs == 1) (p.line % 16 == 0) parts.1)
+
+  pub whole_lines_kept : HasWholeLines lanes p
+  whole_lines_kept several whole = by_size (takes_narrow p) refl
+    where
+      by_size : (b : Bool) → takes_narrow p ≡ b → bytes_of_line (words_for (if b then Of32 else Of64) lanes p) % 64 ≡ 0
+      by_size true e = narrow_lines (narrow_whole several e)
+      by_size false e = wide_lines whole

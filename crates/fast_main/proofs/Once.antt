@@ -12,15 +12,16 @@ use Rattle.listing_text.specs.Progress.{finish, step}
 use Rattle.listing_text.specs.Texts.{is_listing}
 use Rattle.listing_text.proofs.ListingReads.{listing_judges}
 use Rattle.fast_main.specs.declared.status.Status.{Status}
-use Rattle.fast_main.specs.declared.status.Status.TheVariants.{ListingSyntax}
-use Rattle.fast_main.specs.Outcome.{IsUnsound, IsTranslated, IsRefused, IsAnswer, IsOutcomeOfListing}
+use Rattle.fast_main.specs.declared.status.Status.TheVariants.{InputWritten, ListingSyntax, WideModulus}
+use Rattle.fast_main.specs.Outcome.{IsUnsound, IsTooWide, IsTranslated, IsRefused, IsAnswer, IsOutcomeOfListing}
 use Rattle.fast_main.specs.Outcome.{IsOutcome}
+use Rattle.fast_main.specs.Words.{bits_of}
 use Rattle.fast_main.specs.Status.{status_of_check}
-use Rattle.fast_main.specs.Translation.{fast_text}
+use Rattle.fast_main.specs.Translation.{IsWritten, KeepsInput, fast_text}
 use Rattle.fast_main.specs.FastWords.Asked.{Asked, asked}
 use Rattle.data_stream.specs.Parts.Part.{first_part}
 use Rattle.word_code.specs.declared.choose.WordSize.{WordSize}
-use Rattle.word_code.specs.Choice.{allows}
+use Rattle.word_code.specs.Choice.{allows, size_for}
 
 -- The first lines of a text are a front of more of them
 
@@ -78,28 +79,61 @@ passes_or_not bytes a program p listing passes =
     let same = one_program bytes program p.program listing p.listing in
     none_if_passed action_limit p.program p.fault p.told (subst (λ x. PassesCheck action_limit x) same passes) p.cause
 
-refused_once : (size : WordSize) (bytes : List ℕ) (a b : Status) → IsRefused size bytes a → IsRefused size bytes b →
-    a ≡ b
-refused_once size bytes a b (inl p) (inl q) = p.says ∙ ap (λ n. ListingSyntax n) (lost_once is_listing bytes p.line q.line p.lost q.lost) ∙ sym q.says
-refused_once size bytes a b (inl p) (inr (inl q)) = absurd (p.lost.nothing q.program q.listing)
-refused_once size bytes a b (inl p) (inr (inr q)) = absurd (p.lost.nothing q.program q.listing)
-refused_once size bytes a b (inr (inl p)) (inl q) = absurd (q.lost.nothing p.program p.listing)
-refused_once size bytes a b (inr (inl p)) (inr (inl q)) = same_cause bytes a b p q
-refused_once size bytes a b (inr (inl p)) (inr (inr q)) = absurd (passes_or_not bytes a q.program p q.listing q.passes)
-refused_once size bytes a b (inr (inr p)) (inl q) = absurd (q.lost.nothing p.program p.listing)
-refused_once size bytes a b (inr (inr p)) (inr (inl q)) = absurd (passes_or_not bytes b p.program q p.listing p.passes)
-refused_once size bytes a b (inr (inr p)) (inr (inr q)) = p.says ∙ sym q.says
+-- no program's modulus is both taken and not
+allowed_or_not : (wanted : Asked) (bytes : List ℕ) (a : Status) (program : PlainProgram) → IsTooWide wanted bytes a →
+    is_listing bytes program → allows (size_for wanted.size program) program.modulus ≡ true → ⊥
+allowed_or_not wanted bytes a program p listing allowed =
+    let same = one_program bytes program p.program listing p.listing in
+    let yes = ap (λ (x : PlainProgram). allows (size_for wanted.size x) x.modulus) same in
+    let no = p.wide in
+    absurd (cc)
 
-refused_or_translated : (wanted : Asked) (bytes text : List ℕ) (a : Status) → IsRefused wanted.size bytes a →
+-- nor does one both store into the input and not, or first in two phases
+written_once : (wanted : Asked) (p : PlainProgram) (a b : Status) → IsWritten wanted p a → IsWritten wanted p b → a ≡ b
+written_once wanted p a b (phase, writes, says) (phase', writes', says') =
+    let same : phase ≡ phase' = (let e = sym writes ∙ writes' in cc) in says ∙ ap (λ n. InputWritten n) same ∙ sym says'
+
+kept_or_not : (wanted : Asked) (p : PlainProgram) (a : Status) → IsWritten wanted p a → KeepsInput wanted p → ⊥
+kept_or_not wanted p a (phase, writes, says) keeps = let e = sym writes ∙ keeps in absurd (cc)
+
+refused_once : (wanted : Asked) (bytes : List ℕ) (a b : Status) → IsRefused wanted bytes a → IsRefused wanted bytes b →
+    a ≡ b
+refused_once wanted bytes a b (inl p) (inl q) = p.says ∙ ap (λ n. ListingSyntax n) (lost_once is_listing bytes p.line q.line p.lost q.lost) ∙ sym q.says
+refused_once wanted bytes a b (inl p) (inr (inl q)) = absurd (p.lost.nothing q.program q.listing)
+refused_once wanted bytes a b (inl p) (inr (inr (inl q))) = absurd (p.lost.nothing q.program q.listing)
+refused_once wanted bytes a b (inl p) (inr (inr (inr q))) = absurd (p.lost.nothing q.program q.listing)
+refused_once wanted bytes a b (inr (inl p)) (inl q) = absurd (q.lost.nothing p.program p.listing)
+refused_once wanted bytes a b (inr (inl p)) (inr (inl q)) = same_cause bytes a b p q
+refused_once wanted bytes a b (inr (inl p)) (inr (inr (inl q))) =
+    absurd (passes_or_not bytes a q.program p q.listing q.passes)
+refused_once wanted bytes a b (inr (inl p)) (inr (inr (inr q))) =
+    absurd (passes_or_not bytes a q.program p q.listing q.passes)
+refused_once wanted bytes a b (inr (inr (inl p))) (inl q) = absurd (q.lost.nothing p.program p.listing)
+refused_once wanted bytes a b (inr (inr (inl p))) (inr (inl q)) =
+    absurd (passes_or_not bytes b p.program q p.listing p.passes)
+refused_once wanted bytes a b (inr (inr (inl p))) (inr (inr (inl q))) =
+    let same = one_program bytes p.program q.program p.listing q.listing in
+    p.says ∙ ap (λ (x : PlainProgram). WideModulus (bits_of (size_for wanted.size x))) same ∙ sym q.says
+refused_once wanted bytes a b (inr (inr (inl p))) (inr (inr (inr q))) =
+    absurd (allowed_or_not wanted bytes a q.program p q.listing q.allowed)
+refused_once wanted bytes a b (inr (inr (inr p))) (inl q) = absurd (q.lost.nothing p.program p.listing)
+refused_once wanted bytes a b (inr (inr (inr p))) (inr (inl q)) =
+    absurd (passes_or_not bytes b p.program q p.listing p.passes)
+refused_once wanted bytes a b (inr (inr (inr p))) (inr (inr (inl q))) =
+    absurd (allowed_or_not wanted bytes b p.program q p.listing p.allowed)
+refused_once wanted bytes a b (inr (inr (inr p))) (inr (inr (inr q))) =
+    let same = one_program bytes q.program p.program q.listing p.listing in
+    written_once wanted p.program a b p.written (subst (λ x. IsWritten wanted x b) same q.written)
+
+refused_or_translated : (wanted : Asked) (bytes text : List ℕ) (a : Status) → IsRefused wanted bytes a →
     IsTranslated wanted bytes text → ⊥
 refused_or_translated wanted bytes text a (inl p) q = p.lost.nothing q.program q.listing
 refused_or_translated wanted bytes text a (inr (inl p)) q = passes_or_not bytes a q.program p q.listing q.passes
-refused_or_translated wanted bytes text a (inr (inr p)) q =
+refused_or_translated wanted bytes text a (inr (inr (inl p))) q =
+    allowed_or_not wanted bytes a q.program p q.listing q.allowed
+refused_or_translated wanted bytes text a (inr (inr (inr p))) q =
     let same = one_program bytes q.program p.program q.listing p.listing in
-    let yes = ap (λ (x : PlainProgram). allows wanted.size x.modulus) same in
-    let no = p.wide in
-    let allowed = q.allowed in
-    absurd (cc)
+    kept_or_not wanted p.program a p.written (subst (λ x. KeepsInput wanted x) same q.keeps)
 
 translated_once : (wanted : Asked) (bytes s t : List ℕ) → IsTranslated wanted bytes s → IsTranslated wanted bytes t →
     s ≡ t
@@ -110,7 +144,7 @@ Same a b s t = (a ≡ b) × (s ≡ t)
 
 answer_once : (wanted : Asked) (bytes : List ℕ) (a b : Status) (s t : List ℕ) → IsAnswer wanted bytes a s →
     IsAnswer wanted bytes b t → Same a b s t
-answer_once wanted bytes a b s t (inl p) (inl q) = (refused_once wanted.size bytes a b p.0 q.0, p.1 ∙ sym q.1)
+answer_once wanted bytes a b s t (inl p) (inl q) = (refused_once wanted bytes a b p.0 q.0, p.1 ∙ sym q.1)
 answer_once wanted bytes a b s t (inl p) (inr q) = absurd (refused_or_translated wanted bytes t a p.0 q.1)
 answer_once wanted bytes a b s t (inr p) (inl q) = absurd (refused_or_translated wanted bytes s b q.0 p.1)
 answer_once wanted bytes a b s t (inr p) (inr q) = (p.0 ∙ sym q.0, translated_once wanted bytes s t p.1 q.1)

@@ -152,7 +152,7 @@ module _ (given : List (List ℕ)) (wanted : Asked) (out : Option (List ℕ)) (i
       accounts = each;
     }
 
-    pub told_refused : (status : Status) → (IsDefined status → IsRefused wanted.size listing status) → IsInside status
+    pub told_refused : (status : Status) → (IsDefined status → IsRefused wanted listing status) → IsInside status
         → AccountsFor given told left out out status
     told_refused status refused inside =
         account out status (λ more tells. settled given _ more out out status inside.read inside.write

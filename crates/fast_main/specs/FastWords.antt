@@ -1,3 +1,4 @@
 pub mod CommandLine
+pub mod Names
 pub mod Asked
 pub mod View

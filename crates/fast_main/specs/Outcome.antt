@@ -9,15 +9,14 @@ use Rattle.listing_text.specs.Texts.{is_listing}
 use Rattle.code_check.specs.declared.CheckFault.{CheckFault}
 use Rattle.code_check.specs.declared.CheckFault.TheVariants as faults
 use Rattle.code_check.specs.Refusals.{PassesCheck, IsCause, action_limit}
-use Rattle.word_code.specs.declared.choose.WordSize.{WordSize}
-use Rattle.word_code.specs.Choice.{allows}
+use Rattle.word_code.specs.Choice.{allows, size_for}
 use Rattle.io_edge.specs.Faults.{Rose}
 use Rattle.io_edge.specs.Taken.{AppendsPrefix}
 use Rattle.fast_main.specs.declared.status.Status.{Status}
 use Rattle.fast_main.specs.declared.status.Status.TheVariants.{Success, Usage, ListingSyntax, WideModulus, ReadFault}
 use Rattle.fast_main.specs.declared.status.Status.TheVariants.{WriteFault, NoMemory, TooLong}
 use Rattle.fast_main.specs.Status.{listing_limit, status_of_check}
-use Rattle.fast_main.specs.Translation.{fast_text, AreSoundWords}
+use Rattle.fast_main.specs.Translation.{fast_text, AreSoundWords, IsWritten, KeepsInput}
 use Rattle.fast_main.specs.Words.{bits_of}
 use Rattle.fast_main.specs.FastWords.Asked.{Asked, asked}
 use Rattle.data_stream.specs.Parts.Part.{first_part, HasPartEnded, IsInPart}
@@ -38,31 +37,41 @@ pub record IsUnsound (bytes : List ℕ) (status : Status) : Type 0 where
   pub says : status ≡ status_of_check fault
 
 -- they are that of a program that passes the check, whose modulus words of the size do not take
-pub record IsTooWide (size : WordSize) (bytes : List ℕ) (status : Status) : Type 0 where
+pub record IsTooWide (wanted : Asked) (bytes : List ℕ) (status : Status) : Type 0 where
   pub program : PlainProgram
   pub listing : is_listing bytes program
   pub passes : PassesCheck action_limit program
-  pub wide : allows size program.modulus ≡ false
-  pub says : status ≡ WideModulus (bits_of size)
+  pub wide : allows (size_for wanted.size program) program.modulus ≡ false
+  pub says : status ≡ WideModulus (bits_of (size_for wanted.size program))
+
+-- they are that of a program that passes the check, whose modulus they take, and that stores into the input of a function
+pub record IsWriting (wanted : Asked) (bytes : List ℕ) (status : Status) : Type 0 where
+  pub program : PlainProgram
+  pub listing : is_listing bytes program
+  pub passes : PassesCheck action_limit program
+  pub allowed : allows (size_for wanted.size program) program.modulus ≡ true
+  pub written : IsWritten wanted program status
 
 -- they are that of a program that passes the check, and the text is the one of it that is asked for; it spells words
--- of the size, which fit, are apart and leave what the program leaves
+-- of the size, which fit, are apart and leave what the program leaves, and a function's leave its input as it is
 pub record IsTranslated (wanted : Asked) (bytes text : List ℕ) : Type 0 where
   pub program : PlainProgram
   pub listing : is_listing bytes program
   pub passes : PassesCheck action_limit program
-  pub allowed : allows wanted.size program.modulus ≡ true
-  pub sound : AreSoundWords wanted.size wanted.lanes program
+  pub allowed : allows (size_for wanted.size program) program.modulus ≡ true
+  pub sound : AreSoundWords (size_for wanted.size program) wanted.lanes program
+  pub keeps : KeepsInput wanted program
   pub says : text ≡ fast_text wanted program
 
 -- why the bytes of a listing have no text
-abbrev pub IsRefused : WordSize → List ℕ → Status → Type 0
-IsRefused size bytes status = IsUnread bytes status ⊎ (IsUnsound bytes status ⊎ IsTooWide size bytes status)
+abbrev pub IsRefused : Asked → List ℕ → Status → Type 0
+IsRefused wanted bytes status =
+    IsUnread bytes status ⊎ (IsUnsound bytes status ⊎ (IsTooWide wanted bytes status ⊎ IsWriting wanted bytes status))
 
 -- status and text for a listing of no more bytes than may be
 abbrev pub IsAnswer : Asked → List ℕ → Status → List ℕ → Type 0
 IsAnswer wanted bytes status text =
-    (IsRefused wanted.size bytes status × (text ≡ [])) ⊎ ((status ≡ Success) × IsTranslated wanted bytes text)
+    (IsRefused wanted bytes status × (text ≡ [])) ⊎ ((status ≡ Success) × IsTranslated wanted bytes text)
 
 -- for the bytes of any listing
 abbrev pub IsOutcomeOfListing : Asked → List ℕ → Status → List ℕ → Type 0

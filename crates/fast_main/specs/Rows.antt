@@ -4,7 +4,7 @@ use Rattle.io_edge.specs.StatusRows.Rows.{PlainRow, row}
 use Rattle.fast_main.specs.declared.status.Status.{Status}
 use Rattle.fast_main.specs.declared.status.Status.TheVariants.{Success, Usage, ListingSyntax, OverSteps, Address}
 use Rattle.fast_main.specs.declared.status.Status.TheVariants.{Register, LineShared, WideModulus, ReadFault, WriteFault}
-use Rattle.fast_main.specs.declared.status.Status.TheVariants.{NoMemory, TooLong}
+use Rattle.fast_main.specs.declared.status.Status.TheVariants.{NoMemory, TooLong, InputWritten}
 
 abbrev pub row_of : Status → PlainRow
 row_of Success = row 0 []
@@ -26,3 +26,5 @@ row_of (LineShared phase line a b) =
     ∷ (codes " is shared by ", Some a) ∷ (codes " and ", Some b) ∷ [])
 row_of (OverSteps limit) = row 22 ((codes "more than ", Some limit) ∷ (codes " actions", None) ∷ [])
 row_of (WideModulus bits) = row 24 ((codes "modulus of more than ", Some bits) ∷ (codes "-bit words", None) ∷ [])
+row_of (InputWritten phase) =
+    row 25 ((codes "phase ", Some phase) ∷ (codes " stores into X, which is only read in a function", None) ∷ [])

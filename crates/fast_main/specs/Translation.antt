@@ -1,5 +1,6 @@
 -- The C text of a program, and what the words that it spells leave.
-use Rattle.std.specs.Prelude.{◌≡◌, ◌↔◌, ℕ, ◌==◌, ◌<◌, ◌≤◌, nat_lt, IsTrue, Bool, true, false, List, length, All, if◌then◌else◌}
+use Rattle.std.specs.Prelude.{◌≡◌, ◌≢◌, ◌↔◌, ℕ, ◌==◌, ◌%◌, ◌<◌, ◌≤◌, Bool, true, false, List, [], length, All, Option, Some}
+use Rattle.std.specs.Prelude.{None, IsTrue, if◌then◌else◌}
 use Rattle.icode.specs.Actions.{plain_code}
 use Rattle.icode.specs.Fresh.{IsFresh}
 use Rattle.icode.specs.Leftovers.{AreLeftovers, Leftovers}
@@ -16,12 +17,17 @@ use Rattle.loop_lanes.specs.Lanes.{can_be_laned, laned}
 use Rattle.two_tables.specs.Factored.{factored, large_table}
 use Rattle.word_code.specs.Bare.{WordsFit}
 use Rattle.word_code.specs.declared.choose.WordSize.{WordSize}
-use Rattle.word_code.specs.declared.choose.WordSize.TheVariants.{Any, Of32, Of52, Of64}
-use Rattle.word_code.specs.Choice.{fast_words}
+use Rattle.word_code.specs.declared.choose.WordSize.TheVariants.{Of32, Of52, Of64}
+use Rattle.word_code.specs.Bytes.{bytes_of_line}
+use Rattle.word_code.specs.Choice.{fast_words, size_for}
 use Rattle.word_code.specs.FreshWords.{word_results_among}
+use Rattle.word_code.specs.Input.{input_writer}
 use Rattle.word_code.specs.WordMachine.{under, word_results}
 use Rattle.word_code.specs.WordProgram.{PlainWordProgram, word_code}
+use Rattle.fast_text.specs.TextForm.{TextForm, with_arrays, named_function, named_header}
 use Rattle.fast_text.specs.WordText.{words_text}
+use Rattle.fast_main.specs.declared.status.Status.{Status}
+use Rattle.fast_main.specs.declared.status.Status.TheVariants.{InputWritten}
 
 -- the program on several lanes with its loops coalesced, if it can be laned so
 abbrev pub laned_if_coalesced : ℕ → PlainProgram → PlainProgram
@@ -41,16 +47,15 @@ abbrev pub in_blocks : ℕ → PlainProgram → PlainProgram
 in_blocks lanes p = fused large_size (on_lanes lanes p)
 
 -- two products cost less than an entry of a large table: not in words of 64 bits
-abbrev pub has_cheap_products : WordSize → ℕ → Bool
-has_cheap_products Any modulus = nat_lt modulus 2147483648
-has_cheap_products Of32 modulus = true
-has_cheap_products Of52 modulus = true
-has_cheap_products Of64 modulus = false
+abbrev pub has_cheap_products : WordSize → Bool
+has_cheap_products Of32 = true
+has_cheap_products Of52 = true
+has_cheap_products Of64 = false
 
 -- that, where large tables are in two factors if products are cheap
 abbrev pub prepared : WordSize → ℕ → PlainProgram → PlainProgram
 prepared size lanes p =
-    let q = in_blocks lanes p in if has_cheap_products size q.modulus then factored large_table q else q
+    let q = in_blocks lanes p in if has_cheap_products size then factored large_table q else q
 
 -- it reads nothing that is left over, as a walk over its actions finds
 abbrev pub takes_leftovers : WordSize → ℕ → PlainProgram → Bool
@@ -60,10 +65,29 @@ takes_leftovers size lanes p = is_fresh (prepared size lanes p)
 abbrev pub words_for : WordSize → ℕ → PlainProgram → PlainWordProgram
 words_for size lanes p = let q = prepared size lanes p in in_place q (fast_words size q)
 
+-- that is asked for
+abbrev pub wanted_words : Asked → PlainProgram → PlainWordProgram
+wanted_words wanted p = words_for (size_for wanted.size p) wanted.lanes p
+
 -- and the text of it that is asked for
 abbrev pub fast_text : Asked → PlainProgram → List ℕ
-fast_text asked p =
-    words_text asked.form (takes_leftovers asked.size asked.lanes p) (words_for asked.size asked.lanes p)
+fast_text wanted p =
+    words_text wanted.form (takes_leftovers (size_for wanted.size p) wanted.lanes p) (wanted_words wanted p)
+
+-- the phase that stores into the input, where that is the caller's
+abbrev pub writer_in : TextForm → PlainWordProgram → Option ℕ
+writer_in with_arrays words = None
+writer_in (named_function name) words = input_writer words
+writer_in (named_header name) words = input_writer words
+
+-- the text that is asked for leaves its caller's input as it is
+abbrev pub KeepsInput : Asked → PlainProgram → Type 0
+KeepsInput wanted p = writer_in wanted.form (wanted_words wanted p) ≡ None
+
+-- or the status names the phase that does not
+abbrev pub IsWritten : Asked → PlainProgram → Status → Type 0
+IsWritten wanted p status =
+    (phase : ℕ) × (writer_in wanted.form (wanted_words wanted p) ≡ Some phase) × (status ≡ InputWritten phase)
 
 -- for every vector of at least as many residues as its size, and every order
 -- of turns, the program on words leaves in Y the words that the program leaves
@@ -89,3 +113,16 @@ pub record AreSoundWords (size : WordSize) (lanes : ℕ) (p : PlainProgram) : Ty
   pub faithful : IsFaithful size lanes p
   pub fresh : IsTrue (takes_leftovers size lanes p) ↔ IsFresh (plain_code (prepared size lanes p))
   pub again : IsTrue (takes_leftovers size lanes p) → IsFaithfulAmong size lanes p
+
+-- whatever the order of turns, the program on words leaves in Y what it leaves where the processors take no turns but
+-- those of the completion: phase by phase, one processor after another
+abbrev pub IsOrderFree : WordSize → ℕ → PlainProgram → Type 0
+IsOrderFree size lanes p =
+    (x turns : List ℕ) → p.size ≤ length x → All (λ v. v < p.modulus) x →
+    word_results (word_code (words_for size lanes p)) x turns ≡ word_results (word_code (words_for size lanes p)) x []
+
+-- where no size is asked for, a line that is a multiple of 8 words has whole lines of 64 bytes, if processors share the
+-- work
+abbrev pub HasWholeLines : ℕ → PlainProgram → Type 0
+HasWholeLines lanes p =
+    p.procs ≢ 1 → p.line % 8 ≡ 0 → bytes_of_line (words_for (size_for None p) lanes p) % 64 ≡ 0

@@ -2,6 +2,7 @@
 mod app;
 mod form;
 mod line;
+mod names;
 mod options;
 
 pub use options::{Options, Refusal, options_of};

@@ -9,10 +9,10 @@ ghost use Rattle.listing_text.specs.Texts.{is_listing};
 ghost use Rattle.code_check.specs.Refusals.{PassesCheck, action_limit};
 ghost use Rattle.data_stream.specs.Parts.Part.{first_part};
 ghost use Rattle.word_code.specs.declared.choose.WordSize.{WordSize as SpecWordSize};
-ghost use Rattle.word_code.specs.Choice.{allows};
+ghost use Rattle.word_code.specs.Choice.{allows, size_for};
 ghost use Rattle.fast_main.specs.FastWords.Asked.{Asked, IsLaneCount, asked};
 ghost use Rattle.fast_main.specs.Status.{listing_limit};
-ghost use Rattle.fast_main.specs.Translation.{AreSoundWords, fast_text};
+ghost use Rattle.fast_main.specs.Translation.{AreSoundWords, HasWholeLines, IsOrderFree, KeepsInput, fast_text};
 ghost use Rattle.fast_main.specs.declared.status.Status.{Status as SpecStatus};
 ghost use Rattle.fast_main.specs.Outcome.{Accounts, AccountsFor, IsOutcome};
 
@@ -57,12 +57,25 @@ pub fn words_are_sound()
         → AreSoundWords size lanes program }
 {}
 
-/// Where the words ask for a text, and the listing is that of a program that passes the check and whose modulus they
-/// take, the outcome is success with this text.
+/// The two ways of calling the phases leave the same: all by one caller, of each phase one processor after another, or
+/// by threads that take turns in any order within a phase.
+pub fn both_ways_of_calling_leave_the_same()
+    ensures { (size : SpecWordSize) (lanes : ℕ) (program : PlainProgram) → IsLaneCount lanes
+        → IsWithinLimits program → PassesCheck action_limit program → allows size program.modulus ≡ true
+        → IsOrderFree size lanes program }
+{}
+
+/// Where no size of words is asked for, lines of 8 words have whole lines of 64 bytes.
+pub fn lines_have_whole_bytes()
+    ensures { (lanes : ℕ) (program : PlainProgram) → IsLaneCount lanes → HasWholeLines lanes program }
+{}
+
+/// Where the words ask for a text, and the listing is that of a program that passes the check, whose modulus they take
+/// and which keeps the input of a function, the outcome is success with this text.
 pub fn good_listings_are_translated()
     ensures { (words : List (List ℕ)) (bytes : List ℕ) (wanted : Asked) (program : PlainProgram)
         → asked words ≡ Some wanted → length (first_part bytes) ≤ listing_limit
         → is_listing (first_part bytes) program → PassesCheck action_limit program
-        → allows wanted.size program.modulus ≡ true
+        → allows (size_for wanted.size program) program.modulus ≡ true → KeepsInput wanted program
         → IsOutcome words bytes Status.Success (fast_text wanted program) }
 {}

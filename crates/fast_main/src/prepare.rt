@@ -18,11 +18,10 @@ use two_tables::{LARGE_TABLE, factor_tables};
 use word_code::choose::WordSize;
 
 /// Whether two products cost less than an entry of a large table.
-fn has_cheap_products(size: WordSize, modulus: u64) -> bool
-    ensures { result ≡ has_cheap_products size modulus }
+fn has_cheap_products(size: WordSize) -> bool
+    ensures { result ≡ has_cheap_products size }
 {
     match size {
-        WordSize::Any => modulus < 0x8000_0000,
         WordSize::Of32 => true,
         WordSize::Of52 => true,
         WordSize::Of64 => false,
@@ -98,7 +97,7 @@ pub(crate) fn prepare(
         (λ made. plain_program made ≡ prepared size lanes (plain_program program)) }
 {
     let there = put_in_blocks(alloc, lanes, program)?;
-    if !has_cheap_products(size, there.modulus) {
+    if !has_cheap_products(size) {
         return Ok(there);
     }
     let made = factor_tables(alloc, LARGE_TABLE, there)?;

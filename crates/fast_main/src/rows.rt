@@ -37,6 +37,8 @@ impl Status {
                 row! { 21 "phase " phase " line " line " is shared by " a " and " b },
             Self::OverSteps { limit } => row! { 22 "more than " limit " actions" },
             Self::WideModulus { bits } => row! { 24 "modulus of more than " bits "-bit words" },
+            Self::InputWritten { phase } =>
+                row! { 25 "phase " phase " stores into X, which is only read in a function" },
         }
     }
 

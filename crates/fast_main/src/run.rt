@@ -4,14 +4,16 @@ ghost use Rattle.std.specs.Io.KnownBytes.{Appends};
 ghost use Rattle.icode.specs.Machine.{IsApart};
 ghost use Rattle.icode.specs.Program.{plain_program, code_of, Fits};
 ghost use Rattle.io_edge.specs.Faults.{Reports};
-ghost use Rattle.word_code.specs.Choice.{allows};
+ghost use Rattle.word_code.specs.Choice.{allows, size_for};
+ghost use Rattle.word_code.specs.View.{plain_word_program};
+ghost use Rattle.fast_text.specs.TextForm.{text_form};
 ghost use Rattle.fast_main.specs.FastWords.View.{plain_options};
 ghost use Rattle.fast_main.specs.Outcome.{IsRefused, IsTranslated, IsInside, IsDefined};
 ghost use Rattle.fast_main.specs.Outcome.{AreJudged, HasReadListing};
 ghost use Rattle.fast_main.specs.Outcome.{AccountsFor, Notes};
 ghost use Rattle.fast_main.specs.Status.{note_line, status_of};
 ghost use Rattle.fast_main.specs.FastWords.Asked.{IsLaneCount};
-ghost use Rattle.fast_main.specs.Translation.{fast_text, AreSoundWords};
+ghost use Rattle.fast_main.specs.Translation.{writer_in, fast_text, AreSoundWords, IsWritten, KeepsInput};
 
 use crate::Status;
 use crate::fast_words::{Options, options_of};
@@ -20,33 +22,59 @@ use crate::rows::write_note;
 use crate::words::bits_of;
 use code_check::{is_fresh, verify};
 use data_stream::read_part;
-use fast_text::print_words;
+use fast_text::{Form, print_words};
 use icode::program::Program;
 use io_edge::{Feed, Sink, Source, write_all};
 use listing_text::read_listing;
 use memory::NoMemory;
 use std::alloc::Global;
-use word_code::choose::make_fast;
-use word_code::work_in_place;
+use word_code::choose::{WordSize, make_fast, size_for};
+use word_code::program::WordProgram;
+use word_code::{input_writer, work_in_place};
 
 /// How many bytes a listing has at most.
 pub const LISTING_LIMIT: u64 = 1 << 26;
 
-// The C text of a program that is asked for.
-fn fast_text_of(alloc: Global, options: Options<'_>, program: Program) -> Result<Vec<u8>, NoMemory>
+// The phase that stores into the input, where that is the caller's.
+fn writer_in(form: Form<'_>, words: &WordProgram) -> Option<u64>
+    ensures { result ≡ writer_in (text_form form.entry) (plain_word_program words.now) }
+{
+    match form {
+        Form::Arrays => None,
+        Form::Function { .. } => input_writer(words),
+        Form::Header { .. } => input_writer(words),
+    }
+}
+
+// The C text of a program that is asked for, in words of the size that was chosen.
+fn fast_text_of(
+    alloc: Global,
+    options: Options<'_>,
+    size: WordSize,
+    program: Program,
+) -> Result<Vec<u8>, Status>
     requires fits { Fits program }
     requires apart { (phase : ℕ) → IsApart (code_of program) phase }
-    requires allowed { IsTrue (allows options.size program.modulus) }
+    requires allowed { IsTrue (allows size program.modulus) }
     requires lanes { IsLaneCount options.lanes }
+    requires size { size ≡ size_for options.size (plain_program program) }
     ensures text { IfOk result
         (λ text. text.items ≡ fast_text (plain_options options.entry) (plain_program program)) }
+    ensures keeps { IfOk result
+        (λ _. KeepsInput (plain_options options.entry) (plain_program program)) }
     ensures sound { IfOk result
-        (λ _. AreSoundWords options.entry.size options.entry.lanes (plain_program program)) }
+        (λ _. AreSoundWords size options.entry.lanes (plain_program program)) }
+    ensures written { IfErr result (λ status. IsDefined status
+        → IsWritten (plain_options options.entry) (plain_program program) status) }
+    ensures inside { IfErr result (λ status. IsInside status) }
 {
-    let program = prepare(alloc, options.size, options.lanes, program)?;
+    let program = prepare(alloc, size, options.lanes, program)?;
     let fresh = is_fresh(alloc, &program)?;
-    let words = make_fast(alloc, options.size, &program)?;
+    let words = make_fast(alloc, size, &program)?;
     let words = work_in_place(alloc, &program, words)?;
+    if let Some(phase) = writer_in(options.form, &words) {
+        return Err(Status::InputWritten { phase });
+    }
     let text = print_words(alloc, options.form, fresh, &words)?;
     Ok(text)
 }
@@ -57,17 +85,18 @@ fn text_of(alloc: Global, options: Options<'_>, listing: &[u8]) -> Result<Vec<u8
     ensures text { IfOk result
         (λ text. IsTranslated (plain_options options.entry) listing.now text.items) }
     ensures refused { IfErr result
-        (λ status. IsDefined status → IsRefused options.entry.size listing.now status) }
+        (λ status. IsDefined status → IsRefused (plain_options options.entry) listing.now status) }
     ensures inside { IfErr result (λ status. IsInside status) }
 {
     let program = read_listing(alloc, listing)?;
     verify(alloc, &program)?;
-    if !options.size.allows(program.modulus) {
+    let size = size_for(options.size, &program);
+    if !size.allows(program.modulus) {
         return Err(Status::WideModulus {
-            bits: bits_of(options.size),
+            bits: bits_of(size),
         });
     }
-    let text = fast_text_of(alloc, options, program)?;
+    let text = fast_text_of(alloc, options, size, program)?;
     Ok(text)
 }
 

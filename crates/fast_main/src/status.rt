@@ -44,6 +44,10 @@ pub enum Status {
     WideModulus {
         bits: u64,
     },
+    /// The phase stores into X, and a function is asked for, whose input is its caller's.
+    InputWritten {
+        phase: u64,
+    },
     /// The input failed.
     ReadFault,
     /// The output failed.

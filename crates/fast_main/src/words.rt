@@ -10,7 +10,6 @@ pub(crate) fn bits_of(size: WordSize) -> u64
     ensures { result ≡ bits_of size }
 {
     match size {
-        WordSize::Any => 64,
         WordSize::Of32 => 32,
         WordSize::Of52 => 52,
         WordSize::Of64 => 64,

@@ -1,2 +1,9 @@
 pub mod Pieces
 pub mod Nests
+pub mod PlaceBack
+pub mod LineParts
+pub mod LineBack
+pub mod BodyBack
+pub mod WordsBack
+pub mod TextBack
+pub mod Spelling

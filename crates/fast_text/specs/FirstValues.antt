@@ -9,9 +9,11 @@ asked_first_text false = codes ": 0 before the first phase, as each register is 
 abbrev pub first_values_text : List ℕ → Bool → List ℕ
 first_values_text arrays fresh = codes "/* " ++ arrays ++ asked_first_text fresh
 
--- the arrays of a text, and those of a function
+-- the arrays of a text
 abbrev pub own_arrays_text : List ℕ
 own_arrays_text = codes "Y, A, B and the rest of X"
 
-abbrev pub callers_arrays_text : List ℕ
-callers_arrays_text = codes "out, work and the rest of in"
+-- those of a function, whose caller gives residues alone in the input
+abbrev pub callers_arrays_text : Bool → List ℕ
+callers_arrays_text true = codes "out, work"
+callers_arrays_text false = codes "out, work and the rest of in"

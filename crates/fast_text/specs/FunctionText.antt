@@ -34,17 +34,23 @@ turns_text name words procs number =
     numbered_text (codes "for (uint64_t q = 0; q < ") procs (codes "; q++) ")
     ++ phase_call_text name words number ++ codes "\n"
 
+-- where CHECK is defined, a function stops at a word of its input that is too large
+unfoldable pub input_check_text : ℕ → List ℕ
+input_check_text words =
+    numbered_text (codes "#ifdef CHECK\nfor (uint64_t n = 0; n < ") words
+    (codes "; n++) if (in[n] >= M) __builtin_trap();\n#endif\n")
+
 -- the function that does one phase of one processor
 abbrev pub one_phase_text : List ℕ → ℕ → ℕ → List ℕ
 one_phase_text name words phases =
     codes "void " ++ name ++ codes "_phase(uint64_t k, uint64_t q, word *out, const word *in, word *work) {\n"
-    ++ codes "switch (k) {\n" ++ each_from (case_text name words) phases 0 ++ codes "}\n}\n"
+    ++ input_check_text words ++ codes "switch (k) {\n" ++ each_from (case_text name words) phases 0 ++ codes "}\n}\n"
 
 -- the function that does all phases, each of one processor after the other
 abbrev pub whole_text : List ℕ → ℕ → ℕ → ℕ → List ℕ
 whole_text name words procs phases =
     codes "void " ++ name ++ codes "(word *out, const word *in, word *work) {\n"
-    ++ each_from (turns_text name words procs) phases 0 ++ codes "}\n"
+    ++ input_check_text words ++ each_from (turns_text name words procs) phases 0 ++ codes "}\n"
 
 abbrev pub functions_to_link_text : List ℕ → ℕ → ℕ → ℕ → List ℕ
 functions_to_link_text name words procs phases = one_phase_text name words phases ++ whole_text name words procs phases
@@ -72,12 +78,41 @@ counts_text capitals modulus procs phases =
     macro_text capitals (codes "_MODULUS ") modulus (codes "ULL\n") ++ macro_text capitals (codes "_PROCS ") procs (codes "\n")
     ++ macro_text capitals (codes "_PHASES ") phases (codes "\n")
 
--- what is asked of the arrays
-abbrev pub asked_text : List ℕ → List ℕ
-asked_text capitals =
-    codes "/* out, in: " ++ capitals ++ codes "_WORDS words, those of in below " ++ capitals
-    ++ codes "_MODULUS; work: " ++ capitals
-    ++ codes "_WORK words; no two overlap; best at multiples of 64 bytes. */\n"
+abbrev pub line_bytes_text : List ℕ → ℕ → List ℕ
+line_bytes_text capitals bytes = macro_text capitals (codes "_LINE_BYTES ") bytes (codes "\n")
+
+-- the two ways of calling, which leave the same
+abbrev pub calls_text : List ℕ → List ℕ → List ℕ
+calls_text capitals name =
+    codes "/* " ++ name ++ codes " does all phases, of each phase one processor after another. Threads call " ++ name
+    ++ codes "_phase(k, q, ..)\n * for each phase k below " ++ capitals ++ codes "_PHASES, with all q below " ++ capitals
+    ++ codes "_PROCS at once and a barrier after each k. Both leave the same.\n"
+
+-- what the input has to be
+abbrev pub input_asked_text : List ℕ → List ℕ
+input_asked_text capitals =
+    codes " * in: " ++ capitals ++ codes "_WORDS words below " ++ capitals
+    ++ codes "_MODULUS, which stay as they are. With -DCHECK the functions stop at a greater one.\n"
+
+-- what comes out, and where
+abbrev pub results_told_text : List ℕ → List ℕ
+results_told_text capitals =
+    codes " * out: " ++ capitals ++ codes "_WORDS words. The first " ++ capitals
+    ++ codes "_SIZE get the results, in the order of the listing (the natural one for\n * transforms), below "
+    ++ capitals ++ codes "_MODULUS.\n * work: " ++ capitals ++ codes "_WORK words. No two of the three arrays overlap.\n"
+
+-- where lines are those of the listing
+abbrev pub lines_told_text : List ℕ → List ℕ
+lines_told_text capitals =
+    codes " * A line has " ++ capitals
+    ++ codes "_LINE_BYTES bytes. Where each array begins at a multiple of that, no processor touches a line\n"
+    ++ codes " * that another one writes in the phase. Best at multiples of 64 bytes, too. */\n"
+
+-- what is asked of who calls, and what is told
+abbrev pub asked_text : List ℕ → List ℕ → List ℕ
+asked_text capitals name =
+    calls_text capitals name ++ input_asked_text capitals ++ results_told_text capitals
+    ++ lines_told_text capitals
 
 -- of words of 32 bits, and of others
 abbrev pub word_type_text : Bool → List ℕ

@@ -4,3 +4,5 @@ pub mod FunctionText
 pub mod FirstValues
 pub mod WordText
 pub mod WordNests
+pub mod WordReading
+pub mod WordTexts

@@ -1,4 +1,4 @@
--- Which programs on words can be spelt: their numbers can be counted on.
+-- How deep the loops of programs on words stand, and which tiles they have: the printer counts loops and registers.
 use Rattle.std.specs.Prelude.{ℕ, ◌+◌, List, Bool, true, ◌&&◌, nat_lt}
 use Rattle.std.specs.List.{list_all}
 use Rattle.icode.specs.Limits.{is_small}

@@ -16,7 +16,8 @@ use Rattle.fast_text.specs.TextForm.{TextForm, with_arrays, named_function, name
 use Rattle.fast_text.specs.FunctionText.{each_from, static_phase_text, parameters_text}
 use Rattle.fast_text.specs.FunctionText.{functions_to_link_text, capital, guard_text, lengths_text}
 use Rattle.fast_text.specs.FunctionText.{counts_text, asked_text, declared_functions_text, word_type_text}
-use Rattle.fast_text.specs.FunctionText.{linkage_text}
+use Rattle.fast_text.specs.FunctionText.{line_bytes_text, linkage_text}
+use Rattle.word_code.specs.Bytes.{bytes_of_line}
 
 -- a place: its constant and its parts. The constant is unsigned, of 64 bits, and each sum has one, so sums and what is made of
 -- them wrap at the same base as in programs
@@ -180,7 +181,7 @@ arrays_and_phases_text fresh p =
 abbrev pub named_function_text : List ℕ → Bool → PlainWordProgram → List ℕ
 named_function_text name fresh p =
     front_text p ++ all_phases_text (static_phase_text name) parameters_text p
-    ++ first_values_text callers_arrays_text fresh
+    ++ first_values_text (callers_arrays_text fresh) fresh
     ++ functions_to_link_text name (words_of_array p) p.frame.procs (length p.phases)
 
 -- and its header
@@ -188,9 +189,10 @@ abbrev pub named_header_text : List ℕ → Bool → PlainWordProgram → List �
 named_header_text name fresh p =
     let capitals = map capital name in
     word_header_text p ++ guard_text capitals ++ lengths_text capitals p.frame.size (words_of_array p)
+    ++ line_bytes_text capitals (bytes_of_line p)
     ++ counts_text capitals p.frame.modulus p.frame.procs (length p.phases)
-    ++ first_values_text callers_arrays_text fresh
-    ++ linkage_text (asked_text capitals ++ declared_functions_text name (word_type_text (p.width.half == 65536)))
+    ++ first_values_text (callers_arrays_text fresh) fresh
+    ++ linkage_text (asked_text capitals name ++ declared_functions_text name (word_type_text (p.width.half == 65536)))
 
 -- of a program that may read what is left over, or that does not
 abbrev pub words_text : TextForm → Bool → PlainWordProgram → List ℕ

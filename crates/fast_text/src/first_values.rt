@@ -38,7 +38,11 @@ pub(crate) fn put_own_first_values(out: &mut Vec<u8>, fresh: bool) -> Result<(),
 /// Writes it for the arrays of a function's caller.
 pub(crate) fn put_callers_first_values(out: &mut Vec<u8>, fresh: bool) -> Result<(), AllocError>
     ensures { OnOk result (out.new.items ≡ out.old.items
-        ++ first_values_text callers_arrays_text fresh) }
+        ++ first_values_text (callers_arrays_text fresh) fresh) }
 {
-    put_first_values(out, b"out, work and the rest of in", fresh)
+    if fresh {
+        put_first_values(out, b"out, work", true)
+    } else {
+        put_first_values(out, b"out, work and the rest of in", false)
+    }
 }

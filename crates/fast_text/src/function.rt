@@ -1,7 +1,7 @@
 // The functions of a text to link, after its phases.
 
 ghost use Rattle.std.specs.Prelude.{◌≡◌, ◌++◌, IfOk, OnOk};
-ghost use Rattle.fast_text.specs.FunctionText.{static_phase_text, phase_call_text, case_text, turns_text, one_phase_text, whole_text, functions_to_link_text, each_from};
+ghost use Rattle.fast_text.specs.FunctionText.{static_phase_text, phase_call_text, case_text, turns_text, input_check_text, one_phase_text, whole_text, functions_to_link_text, each_from};
 
 use listing_text::{put_numbered, put_word};
 use memory::NoMemory;
@@ -77,6 +77,22 @@ fn put_all_turns(
     Ok(())
 }
 
+// What stops a function at a word of its input that is too large, if CHECK is defined.
+#[tactic(auto, unfolding(crate::specs::FunctionText::input_check_text))]
+fn put_input_check(out: &mut Vec<u8>, words: u64) -> Result<(), AllocError>
+    ensures { OnOk result (out.new.items ≡ out.old.items ++ input_check_text words) }
+{
+    put_numbered(
+        out,
+        b"#ifdef CHECK
+for (uint64_t n = 0; n < ",
+        words,
+        b"; n++) if (in[n] >= M) __builtin_trap();
+#endif
+",
+    )
+}
+
 // The function that does one phase of one processor.
 fn put_one_phase(out: &mut Vec<u8>, name: &[u8], words: u64, phases: u64) -> Result<(), AllocError>
     ensures { OnOk result (out.new.items ≡ out.old.items ++ one_phase_text name.now words phases) }
@@ -85,8 +101,10 @@ fn put_one_phase(out: &mut Vec<u8>, name: &[u8], words: u64, phases: u64) -> Res
     put_word(out, name)?;
     put_word(
         out,
-        b"_phase(uint64_t k, uint64_t q, word *out, const word *in, word *work) {\nswitch (k) {\n",
+        b"_phase(uint64_t k, uint64_t q, word *out, const word *in, word *work) {\n",
     )?;
+    put_input_check(out, words)?;
+    put_word(out, b"switch (k) {\n")?;
     put_cases(out, name, words, phases)?;
     put_word(out, b"}\n}\n")
 }
@@ -105,6 +123,7 @@ fn put_whole(
     put_word(out, b"void ")?;
     put_word(out, name)?;
     put_word(out, b"(word *out, const word *in, word *work) {\n")?;
+    put_input_check(out, words)?;
     put_all_turns(out, name, words, procs, phases)?;
     put_word(out, b"}\n")
 }

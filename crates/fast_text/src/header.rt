@@ -1,7 +1,8 @@
 // The header of a function to link.
 
-ghost use Rattle.std.specs.Prelude.{◌≡◌, ◌++◌, ◌+◌, ◌^◌, ◌<◌, IfOk, OnOk, [], ◌∷◌, map};
-ghost use Rattle.fast_text.specs.FunctionText.{capital, macro_text, guard_text, lengths_text, counts_text, asked_text, word_type_text, arrays_asked_text, declared_functions_text, linkage_text};
+ghost use Rattle.std.specs.Prelude.{◌≡◌, ◌++◌, ◌+◌, ◌*◌, ◌^◌, ◌<◌, IfOk, OnOk, [], ◌∷◌, map};
+ghost use Rattle.word_code.specs.Bytes.{bytes_of_word};
+ghost use Rattle.fast_text.specs.FunctionText.{capital, macro_text, guard_text, lengths_text, line_bytes_text, counts_text, calls_text, input_asked_text, results_told_text, lines_told_text, asked_text, word_type_text, arrays_asked_text, declared_functions_text, linkage_text};
 
 use listing_text::{put_numbered, put_word};
 use memory::NoMemory;
@@ -76,6 +77,32 @@ pub(crate) fn put_lengths(
     put_macro(out, capitals, b"_WORK ", words + words, b"\n")
 }
 
+fn bytes_of_word(half: u64) -> u64
+    ensures { result ≡ bytes_of_word half }
+{
+    if half == 65536 { 4 } else { 8 }
+}
+
+/// Writes how many bytes a line of words has, which have a base with this square root.
+pub(crate) fn put_line_bytes(
+    out: &mut Vec<u8>,
+    capitals: &[u8],
+    line: u64,
+    half: u64,
+) -> Result<(), AllocError>
+    requires { line < 2 ^ 32 }
+    ensures { OnOk result (out.new.items ≡ out.old.items
+        ++ line_bytes_text capitals.now (line * bytes_of_word half)) }
+{
+    put_macro(
+        out,
+        capitals,
+        b"_LINE_BYTES ",
+        line * bytes_of_word(half),
+        b"\n",
+    )
+}
+
 /// Writes the modulus, and how many processors and phases there are.
 pub(crate) fn put_counts(
     out: &mut Vec<u8>,
@@ -92,20 +119,86 @@ pub(crate) fn put_counts(
     put_macro(out, capitals, b"_PHASES ", phases, b"\n")
 }
 
-// What is asked of the arrays.
-fn put_asked(out: &mut Vec<u8>, capitals: &[u8]) -> Result<(), AllocError>
-    ensures { OnOk result (out.new.items ≡ out.old.items ++ asked_text capitals.now) }
+fn put_named(out: &mut Vec<u8>, name: &[u8], text: &[u8]) -> Result<(), AllocError>
+    ensures { OnOk result (out.new.items ≡ out.old.items ++ (name.now ++ text.now)) }
 {
-    put_word(out, b"/* out, in: ")?;
-    put_word(out, capitals)?;
-    put_word(out, b"_WORDS words, those of in below ")?;
-    put_word(out, capitals)?;
-    put_word(out, b"_MODULUS; work: ")?;
-    put_word(out, capitals)?;
-    put_word(
+    put_word(out, name)?;
+    put_word(out, text)
+}
+
+// The two ways of calling.
+fn put_calls(out: &mut Vec<u8>, capitals: &[u8], name: &[u8]) -> Result<(), AllocError>
+    ensures { OnOk result (out.new.items ≡ out.old.items ++ calls_text capitals.now name.now) }
+{
+    put_word(out, b"/* ")?;
+    put_named(
         out,
-        b"_WORK words; no two overlap; best at multiples of 64 bytes. */\n",
+        name,
+        b" does all phases, of each phase one processor after another. Threads call ",
+    )?;
+    put_named(out, name, b"_phase(k, q, ..)\n * for each phase k below ")?;
+    put_named(out, capitals, b"_PHASES, with all q below ")?;
+    put_named(
+        out,
+        capitals,
+        b"_PROCS at once and a barrier after each k. Both leave the same.\n",
     )
+}
+
+// What the input has to be.
+fn put_input_asked(out: &mut Vec<u8>, capitals: &[u8]) -> Result<(), AllocError>
+    ensures { OnOk result (out.new.items ≡ out.old.items ++ input_asked_text capitals.now) }
+{
+    put_word(out, b" * in: ")?;
+    put_named(out, capitals, b"_WORDS words below ")?;
+    put_named(
+        out,
+        capitals,
+        b"_MODULUS, which stay as they are. With -DCHECK the functions stop at a greater one.\n",
+    )
+}
+
+// What comes out, and where.
+fn put_results_told(out: &mut Vec<u8>, capitals: &[u8]) -> Result<(), AllocError>
+    ensures { OnOk result (out.new.items ≡ out.old.items ++ results_told_text capitals.now) }
+{
+    put_word(out, b" * out: ")?;
+    put_named(out, capitals, b"_WORDS words. The first ")?;
+    put_named(
+        out,
+        capitals,
+        b"_SIZE get the results, in the order of the listing (the natural one for\n * transforms), below ",
+    )?;
+    put_named(out, capitals, b"_MODULUS.\n * work: ")?;
+    put_named(
+        out,
+        capitals,
+        b"_WORK words. No two of the three arrays overlap.\n",
+    )
+}
+
+// Where lines are those of the listing.
+fn put_lines_told(out: &mut Vec<u8>, capitals: &[u8]) -> Result<(), AllocError>
+    ensures { OnOk result (out.new.items ≡ out.old.items ++ lines_told_text capitals.now) }
+{
+    put_word(out, b" * A line has ")?;
+    put_named(
+        out,
+        capitals,
+        b"_LINE_BYTES bytes. Where each array begins at a multiple of that, no processor touches a line
+ * that another one writes in the phase. Best at multiples of 64 bytes, too. */
+",
+    )
+}
+
+// What is asked of who calls, and what is told.
+fn put_asked(out: &mut Vec<u8>, capitals: &[u8], name: &[u8]) -> Result<(), AllocError>
+    ensures { OnOk result (out.new.items ≡ out.old.items ++ asked_text capitals.now name.now) }
+{
+    put_calls(out, capitals, name)?;
+    put_input_asked(out, capitals)?;
+    put_results_told(out, capitals)?;
+    put_lines_told(out, capitals)
 }
 
 fn put_arrays_asked(out: &mut Vec<u8>, word: &[u8]) -> Result<(), AllocError>
@@ -141,10 +234,10 @@ fn put_functions_of(
     word: &[u8],
 ) -> Result<(), AllocError>
     ensures { OnOk result (out.new.items ≡ out.old.items
-        ++ linkage_text (asked_text capitals.now ++ declared_functions_text name.now word.now)) }
+        ++ linkage_text (asked_text capitals.now name.now ++ declared_functions_text name.now word.now)) }
 {
     put_word(out, b"#ifdef __cplusplus\nextern \"C\" {\n#endif\n")?;
-    put_asked(out, capitals)?;
+    put_asked(out, capitals, name)?;
     put_declared(out, name, word)?;
     put_word(out, b"#ifdef __cplusplus\n}\n#endif\n#endif\n")
 }
@@ -157,7 +250,8 @@ pub(crate) fn put_linked(
     narrow: bool,
 ) -> Result<(), AllocError>
     ensures { OnOk result (out.new.items ≡ out.old.items ++ linkage_text
-        (asked_text capitals.now ++ declared_functions_text name.now (word_type_text narrow))) }
+        (asked_text capitals.now name.now
+        ++ declared_functions_text name.now (word_type_text narrow))) }
 {
     if narrow {
         put_functions_of(out, capitals, name, b"uint32_t")

@@ -6,6 +6,7 @@ mod form;
 mod front;
 mod function;
 mod header;
+pub mod laws;
 mod operations;
 mod places;
 mod printing;

@@ -9,12 +9,13 @@ ghost use Rattle.fast_text.specs.WordText.{loop_text, word_stmt_text, word_body_
 ghost use Rattle.fast_text.specs.FunctionText.{each_from};
 ghost use Rattle.fast_text.specs.TextForm.{text_form};
 ghost use Rattle.fast_text.specs.WordNests.{is_word_nest_within, are_word_nests_within, are_word_phases_within};
+ghost use Rattle.fast_text.specs.WordTexts.{IsSpellable, IsReadAs};
 
 use crate::first_values::{put_callers_first_values, put_own_first_values};
 use crate::form::Form;
 use crate::front::{put_arrays, put_functions, put_sizes};
 use crate::function::{put_functions_to_link, static_phase};
-use crate::header::{in_capitals, put_counts, put_guard, put_lengths, put_linked};
+use crate::header::{in_capitals, put_counts, put_guard, put_lengths, put_line_bytes, put_linked};
 use crate::operations::{put_op, put_reductions};
 use listing_text::{Header, array_words, put_header, put_numbered, put_word};
 use memory::NoMemory;
@@ -246,15 +247,15 @@ fn print_header(
     put_first(&mut out, program)?;
     put_guard(&mut out, &capitals)?;
     put_lengths(&mut out, &capitals, program.size, words)?;
+    put_line_bytes(&mut out, &capitals, program.line, program.half)?;
     put_counts(&mut out, &capitals, program.modulus, program.procs, phases)?;
     put_callers_first_values(&mut out, fresh)?;
     put_linked(&mut out, &capitals, name, program.half == 65536)?;
     Ok(out)
 }
 
-/// The C text of a program on words, within the limits of programs on residues. It says what arrays have to hold where a
-/// run begins: any words, of a program that is fresh.
-pub fn print_words(
+// The text of this form.
+fn text_of(
     alloc: Global,
     form: Form<'_>,
     fresh: bool,
@@ -271,4 +272,22 @@ pub fn print_words(
         Form::Function { name } => print_function(alloc, name.as_bytes(), fresh, program),
         Form::Header { name } => print_header(alloc, name.as_bytes(), fresh, program),
     }
+}
+
+/// The C text of a program on words. Where it has statements, it is read as that program. It says what arrays have to hold
+/// where a run begins: any words, of a program that is fresh.
+pub fn print_words(
+    alloc: Global,
+    form: Form<'_>,
+    fresh: bool,
+    program: &WordProgram,
+) -> Result<Vec<u8>, NoMemory>
+    requires { IsSpellable (plain_word_program program.now) }
+    ensures text { IfOk result
+        (λ text. text.items ≡ words_text (text_form form.entry) fresh (plain_word_program program.now)) }
+    ensures read_back { IfOk result
+        (λ text. IsReadAs (text_form form.entry) fresh text.items (plain_word_program program.now)) }
+{
+    let text = text_of(alloc, form, fresh, program)?;
+    Ok(text)
 }

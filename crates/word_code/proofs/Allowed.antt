@@ -5,7 +5,7 @@ use Rattle.std.proofs.Common.{mul-le-mul_left}
 use Rattle.std.proofs.Math.Nat.{min-le_right, le-min, div-mul-le_self}
 use Rattle.std.proofs.lemmas.Nat.{le-div}
 use Rattle.word_code.specs.declared.choose.WordSize.{WordSize}
-use Rattle.word_code.specs.declared.choose.WordSize.TheVariants.{Any, Of32, Of52, Of64}
+use Rattle.word_code.specs.declared.choose.WordSize.TheVariants.{Of32, Of52, Of64}
 use Rattle.word_code.specs.Choice.{allows, laziness_for, lazy_within, limit_within, middle, narrow, wide}
 use Rattle.word_code.specs.Laws.{IsLazyWithin}
 use Rattle.word_code.specs.Words.{Width, base_of, sums_of, product_bound}
@@ -53,11 +53,6 @@ wide_within false m some small =
 
 pub lazy_for : (size : WordSize) (m lanes : ℕ) → 2 ≤ m → m < 2 ^ 62 → allows size m ≡ true →
     IsLazyWithin (laziness_for size m lanes) m
-lazy_for Any m lanes some small allowed = of_any (nat_lt m 2147483648) refl
-  where
-    of_any : (b : Bool) → nat_lt m 2147483648 ≡ b → IsLazyWithin (if b then narrow m else wide m lanes) m
-    of_any true e = narrow_within m some (ltb-true m 2147483648 e)
-    of_any false e = wide_within (nat_lt 1 lanes) m some small
 lazy_for Of32 m lanes some small allowed = narrow_within m some (ltb-true m 2147483648 allowed)
 lazy_for Of52 m lanes some small allowed = middle_within m some (ltb-true m 2251799813685248 allowed)
 lazy_for Of64 m lanes some small allowed = wide_within (nat_lt 1 lanes) m some small

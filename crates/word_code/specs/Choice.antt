@@ -1,8 +1,9 @@
 -- How lazy the words of a program are, by the size of words that is asked for. A greater limit of registers than 16
 -- times the modulus is of no use, and A and B are kept below what products are below, where their words are added up.
-use Rattle.std.specs.Prelude.{ℕ, ◌/◌, min, nat_lt, Bool, true, false, if◌then◌else◌}
+use Rattle.std.specs.Prelude.{ℕ, ◌/◌, ◌%◌, ◌==◌, ◌&&◌, ◌||◌, min, nat_lt, Bool, true, false, Option, Some, None}
+use Rattle.std.specs.Prelude.{if◌then◌else◌}
 use Rattle.word_code.specs.declared.choose.WordSize.{WordSize}
-use Rattle.word_code.specs.declared.choose.WordSize.TheVariants.{Any, Of32, Of52, Of64}
+use Rattle.word_code.specs.declared.choose.WordSize.TheVariants.{Of32, Of52, Of64}
 use Rattle.icode.specs.Plain.{PlainProgram}
 use Rattle.word_code.specs.WordProgram.{PlainWordProgram}
 use Rattle.word_code.specs.Words.{Width, product_bound}
@@ -35,14 +36,21 @@ wide modulus lanes =
 
 -- the modulus is less than half of the words' base
 abbrev pub allows : WordSize → ℕ → Bool
-allows Any modulus = true
 allows Of32 modulus = nat_lt modulus 2147483648
 allows Of52 modulus = nat_lt modulus 2251799813685248
 allows Of64 modulus = true
 
--- where any words will do, those of 32 bits are taken if the modulus allows them
+-- Whether words of 32 bits are taken by themselves: the modulus allows them and, where several processors share the
+-- work, 64 bytes of such words, as the machine's lines have, never end inside a line of the program
+abbrev pub takes_narrow : PlainProgram → Bool
+takes_narrow p = nat_lt p.modulus 2147483648 && ((p.procs == 1) || (p.line % 16 == 0))
+
+-- the size of words that is asked for. Where none is, 32 bits or else 64
+abbrev pub size_for : Option WordSize → PlainProgram → WordSize
+size_for (Some size) p = size
+size_for None p = if takes_narrow p then Of32 else Of64
+
 abbrev pub laziness_for : WordSize → ℕ → ℕ → Laziness
-laziness_for Any modulus lanes = if nat_lt modulus 2147483648 then narrow modulus else wide modulus lanes
 laziness_for Of32 modulus lanes = narrow modulus
 laziness_for Of52 modulus lanes = middle modulus
 laziness_for Of64 modulus lanes = wide modulus lanes

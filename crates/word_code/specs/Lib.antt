@@ -12,3 +12,5 @@ pub mod Kinds
 pub mod Choice
 pub mod Bare
 pub mod FreshWords
+pub mod Bytes
+pub mod Input

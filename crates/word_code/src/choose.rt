@@ -2,7 +2,7 @@
 
 ghost use Rattle.std.specs.Prelude.{◌≡◌, ◌^◌, ◌<◌, ◌≤◌, IfOk, IsTrue};
 ghost use Rattle.icode.specs.Program.{plain_program};
-ghost use Rattle.word_code.specs.Choice.{limit_within, narrow, middle, wide, allows, laziness_for, fast_words};
+ghost use Rattle.word_code.specs.Choice.{limit_within, narrow, middle, wide, allows, takes_narrow, size_for, laziness_for, fast_words};
 ghost use Rattle.word_code.specs.Laws.{IsLazyWithin};
 ghost use Rattle.word_code.specs.Same.{LeavesTheSame, OrderIsFreeOf, FitsAs};
 ghost use Rattle.word_code.specs.View.{lazy_of, plain_word_program};
@@ -16,8 +16,6 @@ use std::alloc::Global;
 /// The size of the words that a program is to have.
 #[derive(Clone, Copy, Drop, PartialEq, Eq, Debug)]
 pub enum WordSize {
-    /// 32 bits where the modulus allows them, else 64.
-    Any,
     /// 32 bits.
     Of32,
     /// 52 bits, in words of 64 for sums.
@@ -32,10 +30,32 @@ impl WordSize {
         ensures { result ≡ allows self.now modulus }
     {
         match self {
-            WordSize::Any => true,
             WordSize::Of32 => modulus < 0x8000_0000,
             WordSize::Of52 => modulus < 0x8_0000_0000_0000,
             WordSize::Of64 => true,
+        }
+    }
+}
+
+// Whether words of 32 bits are taken by themselves: with several processors 64 bytes of such words never end inside a line.
+fn takes_narrow(program: &Program) -> bool
+    ensures { result ≡ takes_narrow (plain_program program.now) }
+{
+    program.modulus < 0x8000_0000 && (program.procs == 1 || program.line % 16 == 0)
+}
+
+/// The size of words that is asked for. Where none is, 32 bits or else 64.
+pub fn size_for(asked: Option<WordSize>, program: &Program) -> WordSize
+    ensures { result ≡ size_for asked (plain_program program.now) }
+{
+    match asked {
+        Some(size) => size,
+        None => {
+            if takes_narrow(program) {
+                WordSize::Of32
+            } else {
+                WordSize::Of64
+            }
         }
     }
 }
@@ -104,13 +124,6 @@ pub fn slack_for(size: WordSize, modulus: u64, lanes: u64) -> Slack
     ensures half { result.half ≤ 2 ^ 32 }
 {
     match size {
-        WordSize::Any => {
-            if modulus < 0x8000_0000 {
-                narrow(modulus)
-            } else {
-                wide(modulus, lanes)
-            }
-        }
         WordSize::Of32 => narrow(modulus),
         WordSize::Of52 => middle(modulus),
         WordSize::Of64 => wide(modulus, lanes),

@@ -3,6 +3,7 @@
 
 pub mod choose;
 mod in_place;
+mod input;
 pub mod laws;
 mod needs;
 mod note;
@@ -12,3 +13,4 @@ mod settle;
 mod single;
 
 pub use in_place::work_in_place;
+pub use input::input_writer;

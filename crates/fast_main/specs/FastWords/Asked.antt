@@ -1,15 +1,15 @@
 -- What the words of a command line ask for.
-use Rattle.std.specs.Prelude.{◌≡◌, ◌⊎◌, ℕ, ◌==◌, ◌&&◌, ◌||◌, nat_le, not, Bool, true, false, List, [], ◌∷◌, length}
-use Rattle.std.specs.Prelude.{Option, Some, None, codes, if◌then◌else◌}
-use Rattle.std.specs.List.{list_all}
+use Rattle.std.specs.Prelude.{◌≡◌, ◌⊎◌, ℕ, Bool, true, false, List, Option, Some, None, codes, option_map}
+use Rattle.std.specs.Prelude.{if◌then◌else◌}
 use Rattle.std.specs.Option.{option_map_or}
 use Rattle.std.specs.Str.{bytes_eq}
 use Rattle.clap.specs.Words.{Row, Text, fault_of, first_of, matches_of}
 use Rattle.clap.specs.Walk.{is_empty}
 use Rattle.word_code.specs.declared.choose.WordSize.{WordSize}
-use Rattle.word_code.specs.declared.choose.WordSize.TheVariants.{Any, Of32, Of52, Of64}
+use Rattle.word_code.specs.declared.choose.WordSize.TheVariants.{Of32, Of52, Of64}
 use Rattle.fast_text.specs.TextForm.{TextForm, with_arrays, named_function, named_header}
 use Rattle.fast_main.specs.FastWords.CommandLine.{fast_app}
+use Rattle.fast_main.specs.FastWords.Names.{is_free_name}
 
 -- ---- words of a size
 
@@ -19,9 +19,9 @@ size_named word =
     else (if bytes_eq word (codes "52") then Some Of52
     else (if bytes_eq word (codes "64") then Some Of64 else None))
 
--- without the option any will do
-abbrev pub size_in : List Row → Option WordSize
-size_in rows = option_map_or size_named (first_of (codes "words") rows) (Some Any)
+-- without the option no size is asked for
+abbrev pub size_in : List Row → Option (Option WordSize)
+size_in rows = option_map_or (λ word. option_map Some (size_named word)) (first_of (codes "words") rows) (Some None)
 
 -- ---- lanes
 
@@ -40,26 +40,6 @@ IsLaneCount lanes = (lanes ≡ 1) ⊎ ((lanes ≡ 2) ⊎ (lanes ≡ 4) ⊎ (lane
 abbrev pub lanes_in : List Row → Option ℕ
 lanes_in rows = option_map_or lanes_named (first_of (codes "lanes") rows) (Some 1)
 
--- ---- names
-
-abbrev pub is_digit : ℕ → Bool
-is_digit byte = nat_le 48 byte && nat_le byte 57
-
-abbrev pub is_letter : ℕ → Bool
-is_letter byte = (nat_le 97 byte && nat_le byte 122) || (nat_le 65 byte && nat_le byte 90)
-
-abbrev pub is_name_byte : ℕ → Bool
-is_name_byte byte = is_letter byte || (is_digit byte || byte == 95)
-
-abbrev pub begins_with_digit : Text → Bool
-begins_with_digit [] = false
-begins_with_digit (byte ∷ name) = is_digit byte
-
--- an identifier of C, of at most 64 bytes
-abbrev pub is_name : Text → Bool
-is_name name =
-    not (length name == 0) && (nat_le (length name) 64 && (not (begins_with_digit name) && list_all is_name_byte name))
-
 -- ---- which text
 
 -- the option without a value is given
@@ -71,9 +51,9 @@ abbrev pub named_form : Bool → Text → TextForm
 named_form false name = named_function name
 named_form true name = named_header name
 
--- without a name there are arrays, and no header
+-- a name that is free is a function's; without one there are arrays, and no header
 abbrev pub form_by : Bool → Option Text → Option TextForm
-form_by wants_header (Some name) = if is_name name then Some (named_form wants_header name) else None
+form_by wants_header (Some name) = if is_free_name name then Some (named_form wants_header name) else None
 form_by wants_header None = if wants_header then None else Some with_arrays
 
 abbrev pub form_in : List Row → Option TextForm
@@ -81,13 +61,13 @@ form_in rows = form_by (is_given (codes "header") rows) (first_of (codes "name")
 
 -- ---- all of it
 
--- words of which size, how many lanes, and which text
+-- words of which size, if of one, how many lanes, and which text
 pub record Asked : Type 0 where
-  pub size : WordSize
+  pub size : Option WordSize
   pub lanes : ℕ
   pub form : TextForm
 
-abbrev pub together : Option WordSize → Option ℕ → Option TextForm → Option Asked
+abbrev pub together : Option (Option WordSize) → Option ℕ → Option TextForm → Option Asked
 together (Some size) (Some lanes) (Some form) = Some (record { size = size; lanes = lanes; form = form })
 together _ _ _ = None
 

@@ -14,10 +14,10 @@ use std::alloc::{AllocError, Global};
 use thiserror::Error;
 use word_code::choose::WordSize;
 
-/// What the words ask for: words of a size, how many lanes, and which text.
+/// What the words ask for: words of a size, if of one, how many lanes, and which text.
 #[derive(Clone, Copy)]
 pub struct Options<'a> {
-    pub size: WordSize,
+    pub size: Option<WordSize>,
     pub lanes: u64,
     pub form: Form<'a>,
 }
@@ -53,12 +53,12 @@ fn size_named(word: &str) -> Option<WordSize>
     }
 }
 
-fn size_in(matches: &ArgMatches<'_>) -> Option<WordSize>
+fn size_in(matches: &ArgMatches<'_>) -> Option<Option<WordSize>>
     ensures { result ≡ size_in (rows_of (found_of matches.now)) }
 {
     match option_in(matches, "words") {
-        Some(word) => size_named(word),
-        None => Some(WordSize::Any),
+        Some(word) => size_named(word).map(Some),
+        None => Some(None),
     }
 }
 
@@ -93,7 +93,7 @@ fn form_in<'a>(matches: &ArgMatches<'a>) -> Option<Form<'a>>
 }
 
 fn together<'a>(
-    size: Option<WordSize>,
+    size: Option<Option<WordSize>>,
     lanes: Option<u64>,
     form: Option<Form<'a>>,
 ) -> Option<Options<'a>>

@@ -5,4 +5,11 @@ use Rattle.fast_text.proofs.function.put_whole.Goals as goal
 pub returns : goal.returns
 returns c =
     IfOk-equal c.put_word-4.result _ _ _ c.put_word-4.ensures
-    (rw (c.in_ok-put_all_turns.ensures, c.in_ok-put_word-3.ensures, c.in_ok-put_word-2.ensures, c.in_ok-put_word.ensures) (simp append_assoc))
+    (rw (
+      c.in_ok-put_all_turns.ensures,
+      c.in_ok-put_input_check.ensures,
+      c.in_ok-put_word-3.ensures,
+      c.in_ok-put_word-2.ensures,
+      c.in_ok-put_word.ensures,
+    )
+    (simp append_assoc))

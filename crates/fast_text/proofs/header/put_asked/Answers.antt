@@ -4,5 +4,5 @@ use Rattle.fast_text.proofs.header.put_asked.Goals as goal
 
 pub returns : goal.returns
 returns c =
-    IfOk-equal c.put_word-7.result _ _ _ c.put_word-7.ensures
-    (rw (c.in_ok-put_word-6.ensures, c.in_ok-put_word-5.ensures, c.in_ok-put_word-4.ensures, c.in_ok-put_word-3.ensures, c.in_ok-put_word-2.ensures, c.in_ok-put_word.ensures) (simp append_assoc))
+    IfOk-equal c.put_lines_told.result _ _ _ c.put_lines_told.ensures
+    (rw (c.in_ok-put_results_told.ensures, c.in_ok-put_input_asked.ensures, c.in_ok-put_calls.ensures) (simp append_assoc))

@@ -9,5 +9,5 @@ returns c =
     IfOk-equal c.put_word-2.result _ _ _ c.put_word-2.ensures
     (rw (c.in_ok-put_declared.ensures, c.in_ok-put_asked.ensures, c.in_ok-put_word.ensures)
     (pieces_between c.args.out.now.items (codes "#ifdef __cplusplus\nextern \"C\" {\n#endif\n")
-    (asked_text c.args.capitals.now)
+    (asked_text c.args.capitals.now c.args.name.now)
     (declared_functions_text c.args.name.now c.args.word.now) (codes "#ifdef __cplusplus\n}\n#endif\n#endif\n")))

@@ -18,7 +18,7 @@ returns c =
     let mapped : length p.phases ≡ length c.args.program.now.phases.items = length-map c.args.program.now.phases.items _ in
     let count : c.len-phases.result ≡ length p.phases = omega (arith, c.len-phases.ensures, c.args.program.now.phases.ok.0, mapped) in
     four_parts (front_text p) (all_phases_text (static_phase_text name) parameters_text p)
-    (first_values_text callers_arrays_text c.args.fresh)
+    (first_values_text (callers_arrays_text c.args.fresh) c.args.fresh)
     (functions_to_link_text name (words_of_array p) procs (length p.phases)) c.new-out.result.items front phases told
     c.put_functions_to_link.new.out.items c.new-out.ensures.items c.in_ok-put_front.ensures
     (c.in_ok-put_phases.ensures

@@ -1,0 +1,7 @@
+use Rattle.std.proofs.Common.{append_assoc}
+use Rattle.std.proofs.lemmas.Result.{IfOk-equal}
+use Rattle.fast_text.proofs.header.put_lines_told.Goals as goal
+
+pub returns : goal.returns
+returns c =
+    IfOk-equal c.put_named.result _ _ _ c.put_named.ensures (rw c.in_ok-put_word.ensures (simp append_assoc))
