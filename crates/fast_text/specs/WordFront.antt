@@ -48,6 +48,8 @@ one_lane_text =
 unfoldable pub part_text : List ℕ
 part_text =
     codes "#elif (V == 2 || V == 4 || V == 8 || V == 16) && (HALF == 65536 || HALF == 67108864 || ROUGH)\n"
+    ++ codes "#define _MM_MALLOC_H_INCLUDED\n"
+    ++ codes "#define __MM_MALLOC_H\n"
     ++ codes "#if defined __AVX2__\n"
     ++ codes "#include <immintrin.h>\n"
     ++ codes "#elif defined __SSE4_1__\n"

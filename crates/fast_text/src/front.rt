@@ -60,13 +60,16 @@ INLINE void tile(vec *b) { (void)b; }
 }
 
 // A register of lanes in parts: what a register of the machine holds, or at most 16 bytes where none is known.
-// P is how many words that is, and BY names an operation of the machine on it.
+// P is how many words that is, and BY names an operation of the machine on it. The headers of these operations bring none of stdlib.h
+// with them, whose names a function may have.
 #[tactic(auto, unfolding(crate::specs::WordFront::part_text))]
 fn put_part(out: &mut Vec<u8>) -> Result<(), AllocError>
     ensures { OnOk result (out.new.items ≡ out.old.items ++ part_text) }
 {
     out.extend_from_slice(
         b"#elif (V == 2 || V == 4 || V == 8 || V == 16) && (HALF == 65536 || HALF == 67108864 || ROUGH)
+#define _MM_MALLOC_H_INCLUDED
+#define __MM_MALLOC_H
 #if defined __AVX2__
 #include <immintrin.h>
 #elif defined __SSE4_1__

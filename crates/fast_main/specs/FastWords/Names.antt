@@ -45,12 +45,14 @@ words_of_c =
 -- the text's functions and types, and its macros
 abbrev pub words_of_text : List (List ℕ)
 words_of_text =
-    codes "add" ∷ codes "exchange1" ∷ codes "exchange2" ∷ codes "exchange4" ∷ codes "exchange8" ∷ codes "halves"
-    ∷ codes "high" ∷ codes "least" ∷ codes "load" ∷ codes "low" ∷ codes "mul" ∷ codes "neg" ∷ codes "reduced"
-    ∷ codes "splat" ∷ codes "store" ∷ codes "sub" ∷ codes "tile" ∷ codes "unaligned" ∷ codes "vec" ∷ codes "wide"
-    ∷ codes "word" ∷ codes "CHECK" ∷ codes "EACH" ∷ codes "EXCHANGE" ∷ codes "FMA" ∷ codes "HALF" ∷ codes "INLINE"
-    ∷ codes "LANES" ∷ codes "LOW" ∷ codes "LOW52" ∷ codes "LOWER" ∷ codes "M" ∷ codes "MINIMUM" ∷ codes "PAIR"
-    ∷ codes "PART" ∷ codes "ROUGH" ∷ codes "TOP_BIT" ∷ codes "UPPER" ∷ codes "V" ∷ []
+    codes "add" ∷ codes "halves" ∷ codes "high" ∷ codes "least" ∷ codes "load" ∷ codes "low" ∷ codes "moduli"
+    ∷ codes "mul" ∷ codes "mul_part" ∷ codes "neg" ∷ codes "part" ∷ codes "reduced" ∷ codes "reduced_part"
+    ∷ codes "splat" ∷ codes "store" ∷ codes "sub" ∷ codes "swap" ∷ codes "tile" ∷ codes "unaligned" ∷ codes "vec"
+    ∷ codes "wide" ∷ codes "word" ∷ codes "BITS" ∷ codes "BY" ∷ codes "CHECK" ∷ codes "EACH" ∷ codes "EXCHANGE"
+    ∷ codes "EXCHANGED" ∷ codes "FIRST" ∷ codes "FMA" ∷ codes "HALF" ∷ codes "INLINE" ∷ codes "LANES"
+    ∷ codes "LAST" ∷ codes "LOW" ∷ codes "LOW52" ∷ codes "LOWER" ∷ codes "M" ∷ codes "MINIMUM" ∷ codes "P"
+    ∷ codes "PART" ∷ codes "PARTS" ∷ codes "PICKED" ∷ codes "ROUGH" ∷ codes "TOP_BIT" ∷ codes "UPPER" ∷ codes "V"
+    ∷ codes "WORDS" ∷ []
 
 -- a table of the text, as t0 or u12
 abbrev pub is_table : List ℕ → Bool
