@@ -4,7 +4,8 @@
     checks/functions.py [COMPILER ..]     gcc and clang, if none is named
 
 Two functions stand in one program and two threads call them at once; another program spreads one transform over threads
-by its phases. Each is also built with ThreadSanitizer. A function's file shows its two names alone, and has no data but
+by its phases, as POSIX has them and, where a compiler has it, by OpenMP. The first two are also built with ThreadSanitizer,
+which does not know OpenMP's threads. A function's file shows its two names alone, and has no data but
 constants. All is compiled with -Wall -Wextra -Werror, and what is made of `spiral c` with -Wpedantic, too. Python and
 Rust call a function, where cargo is there.
 """
@@ -83,12 +84,19 @@ def check_symbols(folder, names):
             sys.exit(f"functions: {name} has other names or data: {symbols}")
 
 
+def has_openmp(folder, compiler):
+    program = [compiler, "-fopenmp", "-xc", "-", "-o", f"{folder}/empty"]
+    return subprocess.run(program, input="int main(void) { return 0; }", capture_output=True, text=True).returncode == 0
+
+
 def check(folder, compilers, writer):
-    """Builds and runs both programs; gives how many were right."""
+    """Builds and runs the programs; gives how many were right."""
     right = 0
     pedantic = ["-Wpedantic"] if writer is by_library else []
     builds = [[compiler, "-O1", *pedantic] for compiler in compilers] + [[compilers[0], *THREAD_SANITIZER]]
-    for main, (size, modulus, root, words) in (("two.c", SMALL), ("two.c", LARGE), ("on_threads.c", LARGE)):
+    by_openmp = [[compiler, "-O1", "-fopenmp", *pedantic] for compiler in compilers if has_openmp(folder, compiler)]
+    mains = [("two.c", SMALL, builds), ("two.c", LARGE, builds), ("on_threads.c", LARGE, builds)]
+    for main, (size, modulus, root, words), builds in [*mains, ("on_openmp.c", LARGE, by_openmp)]:
         requests = {"forward": f"dft {size} mod {modulus} root {root} {words}"}
         if main == "two.c":
             requests["back"] = "i" + requests["forward"]
