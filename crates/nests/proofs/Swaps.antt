@@ -48,7 +48,7 @@ written_alike (v ∷ vs) xs ys i k long h =
       | inr other ↦ slice_get-set_agree xs ys i k v (h (λ a b. outside (omega arith) (omega arith)))
     ])
 
-map-alike : (f g : ℕ → ℕ) (n i : ℕ) → ((l : ℕ) → l < i + n → f l ≡ g l) →
+pub map-alike : (f g : ℕ → ℕ) (n i : ℕ) → ((l : ℕ) → l < i + n → f l ≡ g l) →
     map f (range_with_len i n) ≡ map g (range_with_len i n)
 map-alike f g zero i h = refl
 map-alike f g (suc n) i h =

@@ -10,4 +10,4 @@ mod registers;
 pub use bodies::{innermost, is_nest, push_counts};
 pub use independence::{are_independent, same_array};
 pub use parts::{are_linear, same_parts, stride};
-pub use registers::are_fresh;
+pub use registers::{are_fresh, is_fresh, put_after};

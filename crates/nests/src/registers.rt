@@ -7,8 +7,8 @@ ghost use Rattle.nests.specs.Rounds.{is_fresh, put_after, are_fresh};
 
 use icode::program::{Op, Stmt};
 
-// Whether the operation puts the next register, or those from it on, and reads registers before it.
-fn is_fresh(lanes: u64, next: u128, op: &Op) -> bool
+/// Whether the operation puts the next register, or those from it on, and reads registers before it.
+pub fn is_fresh(lanes: u64, next: u128, op: &Op) -> bool
     ensures { result ≡ is_fresh lanes next (plain_op op.now) }
 {
     let is_next = |register: u64| register as u128 == next;
@@ -44,8 +44,8 @@ fn is_fresh(lanes: u64, next: u128, op: &Op) -> bool
     }
 }
 
-// The register after those that have been put.
-fn put_after(lanes: u64, next: u128, op: &Op) -> u128
+/// The register after those that have been put.
+pub fn put_after(lanes: u64, next: u128, op: &Op) -> u128
     requires fresh { is_fresh lanes next (plain_op op.now) ≡ true }
     requires small { next < 2 ^ 65 }
     ensures value { result ≡ put_after lanes next (plain_op op.now) }
