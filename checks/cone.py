@@ -24,6 +24,7 @@ END = "<!-- the end of the table of commands -->"
 # and are not opened.
 COMMANDS = [
     ("`code` and `run`", ["the_program_is_right"]),
+    ("`compile`, `apply`, `convolve`", ["formulas_are_right"]),
     ("`plan`", ["plan_answers", "plan_is_right"]),
     ("`formula`", ["formula_answers", "formula_is_right"]),
     ("`code`", ["code_answers", "code_is_good", "code_is_lean", "code_is_right"]),
@@ -41,6 +42,8 @@ COMMANDS = [
     ("all commands, programs by what they do", ["one_generator"]),
     ("all commands at once", ["calls_have_one_status"]),
 ]
+# The calls that the two programs make, whose clauses have all this.
+PROGRAMS = [("the program `spiral`", "spiral_main", "spiral_run"), ("the program `spiral-fast`", "fast_main", "fast_run")]
 LINK = {"Outcome.IsOutcome", "Outcome.AccountsFor"}
 # A law on good programs is read with that on right calls, which opens the words and the line (`right_lines_are_ordered` links it to
 # the law on answers), and with that on answers, which opens the text of a program.
@@ -179,12 +182,18 @@ def counts(crate, functions, cut, definitions, brought):
 def table():
     """The text between the marks of the page."""
     definitions, brought = all_definitions()
-    rows = ["", "| command | law | lines to read |", "| --- | --- | --- |"]
+
+    def lines(crate, function, cut):
+        keys, _ = counts(crate, [function], cut, definitions, brought)[function]
+        return f"{sum(len(definitions[key]) for key in keys):,}"
+
+    rows = ["", "| command | law or call | lines to read |", "| --- | --- | --- |"]
     for command, laws in COMMANDS:
         for law in laws:
             cut = set() if law == "calls_have_one_status" else CALLS if law.endswith(("_is_good", "_is_lean")) else LINK
-            found = counts("spiral_main", [law], cut, definitions, brought)
-            rows.append(f"| {command} | `{law}` | {sum(len(definitions[key]) for key in found[law][0]):,} |")
+            rows.append(f"| {command} | `{law}` | {lines('spiral_main', law, cut)} |")
+    for program, crate, call in PROGRAMS:
+        rows.append(f"| {program} | `{call}` | {lines(crate, call, set())} |")
     return "\n".join(rows + ["", ""])
 
 
