@@ -73,7 +73,7 @@ def prove(name, progress):
             progress.read(line)
     progress.close()
     if run.returncode != 0:
-        sys.exit(refusals(said))
+        sys.exit(f"{refusals(said)}build: rt ci {name} ended with status {run.returncode}")
     return said
 
 
