@@ -1,7 +1,7 @@
 -- The words of a program that passes the check are sound.
 use Rattle.std.proofs.Common.{◌≡◌, ℕ, zero, suc, ◌+◌, ◌==◌, ◌&&◌, All, List, [], length, map, ◌<◌, ◌≤◌, Bool, true}
 use Rattle.std.proofs.Common.{false, inl, inr, refl, sym, ap, subst, ◌∙◌, arith, le_of_eq}
-use Rattle.std.specs.Prelude.{if◌then◌else◌, slice_index_or}
+use Rattle.std.specs.Prelude.{if◌then◌else◌, not, nat_lt, slice_index_or, Option, Some, None, ◌^◌}
 use Rattle.std.specs.List.{list_all}
 use Rattle.icode.specs.Actions.{PlainFits, plain_code}
 use Rattle.icode.specs.declared.program.Program.{Program}
@@ -20,6 +20,8 @@ use Rattle.word_code.proofs.Quickened.{quickened_is_same}
 use Rattle.nests.specs.Nests.{are_nests}
 use Rattle.interchange.specs.Interchanged.{interchanged, interchanged_body}
 use Rattle.interchange.proofs.Interchanged.{interchanged_program}
+use Rattle.renumbered_registers.specs.Renumbered.{are_in_order, numbered_phases, registers_for, renumbered, with_numbers}
+use Rattle.renumbered_registers.proofs.Law.{renumbered_leaves_the_same}
 use Rattle.coalesced_loops.specs.Coalesced.{coalesced}
 use Rattle.coalesced_loops.proofs.Law.{coalesced_does_the_same}
 use Rattle.loop_lanes.specs.Lanes.{IsLanes, can_be_laned, laned}
@@ -72,6 +74,26 @@ interchanged_is p =
       law = interchanged_program p;
     }
 
+renumbered_is : (p : PlainProgram) → Keeps (renumbered p) p
+renumbered_is p =
+    record {
+      line = line
+          (not (list_all (are_in_order p.lanes 0) p.phases) && nat_lt (registers_for p.lanes p.phases) (2 ^ 20))
+          (numbered_phases p.lanes p.phases);
+      law = renumbered_leaves_the_same p;
+    }
+  where
+    line : (b : Bool) (phases : Option (List PlainBody)) →
+        (if b then with_numbers (registers_for p.lanes p.phases) p phases else p).line ≡ p.line
+    line true None = refl
+    line true (Some phases) = refl
+    line false phases = refl
+
+-- with its registers renumbered, and then its loops interchanged
+ordered_is : (p : PlainProgram) → Keeps (interchanged (renumbered p)) p
+ordered_is p =
+    then_keeps (interchanged (renumbered p)) (renumbered p) p (interchanged_is (renumbered p)) (renumbered_is p)
+
 record Frame (q p : PlainProgram) : Type 0 where
   size : q.size ≡ p.size
   modulus : q.modulus ≡ p.modulus
@@ -116,14 +138,15 @@ several_is v p lanes = of_choice (can_be_laned v p) (can_be_laned v (coalesced p
     of_choice false false = keeps_itself p
 
 on_lanes_is : (lanes : ℕ) (p : PlainProgram) → IsLaneCount lanes → Keeps (on_lanes lanes p) p
-on_lanes_is lanes p (inl one) = subst (λ n. Keeps (on_lanes n p) p) (sym one) (interchanged_is p)
+on_lanes_is lanes p (inl one) = subst (λ n. Keeps (on_lanes n p) p) (sym one) (ordered_is p)
 on_lanes_is lanes p (inr some) = of_choice (lanes == 1)
   where
-    of_choice : (b : Bool) → Keeps (if b then interchanged p else on_several lanes (interchanged p)) p
-    of_choice true = interchanged_is p
-    of_choice false =
-        then_keeps (on_several lanes (interchanged p)) (interchanged p) p
-        (several_is lanes (interchanged p) some) (interchanged_is p)
+    q : PlainProgram
+    q = interchanged (renumbered p)
+
+    of_choice : (b : Bool) → Keeps (if b then q else on_several lanes q) p
+    of_choice true = ordered_is p
+    of_choice false = then_keeps (on_several lanes q) q p (several_is lanes q some) (ordered_is p)
 
 in_blocks_is : (lanes : ℕ) (p : PlainProgram) → IsLaneCount lanes → Keeps (in_blocks lanes p) p
 in_blocks_is lanes p count =

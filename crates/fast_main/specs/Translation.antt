@@ -9,6 +9,7 @@ use Rattle.fast_main.specs.FastWords.Asked.{Asked}
 use Rattle.word_code.specs.InPlace.InPlace.{in_place}
 use Rattle.fused_loops.specs.Fused.{fused, large_size}
 use Rattle.interchange.specs.Interchanged.{interchanged}
+use Rattle.renumbered_registers.specs.Renumbered.{renumbered}
 use Rattle.coalesced_loops.specs.Coalesced.{coalesced}
 use Rattle.loop_lanes.specs.Lanes.{can_be_laned, laned}
 use Rattle.two_tables.specs.Factored.{factored, large_table}
@@ -29,9 +30,10 @@ laned_if_coalesced lanes p = let q = coalesced p in if can_be_laned lanes q then
 abbrev pub on_several : ℕ → PlainProgram → PlainProgram
 on_several lanes p = if can_be_laned lanes p then laned lanes p else laned_if_coalesced lanes p
 
--- the program where loops are interchanged, and where rounds of loops become lanes if several are asked for
+-- the program where registers are renumbered and loops interchanged, and where rounds of loops become lanes if several
+-- are asked for
 abbrev pub on_lanes : ℕ → PlainProgram → PlainProgram
-on_lanes lanes p = let q = interchanged p in if lanes == 1 then q else on_several lanes q
+on_lanes lanes p = let q = interchanged (renumbered p) in if lanes == 1 then q else on_several lanes q
 
 -- that, where nests go over the blocks of large arrays together
 abbrev pub in_blocks : ℕ → PlainProgram → PlainProgram

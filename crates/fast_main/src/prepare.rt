@@ -12,6 +12,7 @@ use icode::program::Program;
 use interchange::interchange;
 use loop_lanes::lane_loops;
 use memory::NoMemory;
+use renumbered_registers::renumber_registers;
 use std::alloc::Global;
 use two_tables::{LARGE_TABLE, factor_tables};
 use word_code::choose::WordSize;
@@ -57,13 +58,14 @@ fn put_on_several(alloc: Global, lanes: u64, program: Program) -> Result<Program
     Ok(made)
 }
 
-// The program where loops are interchanged, and where rounds of loops become lanes.
+// The program where registers are renumbered and loops interchanged, and where rounds of loops become lanes.
 fn put_on_lanes(alloc: Global, lanes: u64, program: Program) -> Result<Program, NoMemory>
     requires { IsLaneCount lanes }
     ensures { IfOk result
         (λ made. plain_program made ≡ on_lanes lanes (plain_program program)) }
 {
-    let program = interchange(program);
+    let numbered = renumber_registers(alloc, program)?;
+    let program = interchange(numbered);
     if lanes == 1 {
         return Ok(program);
     }
