@@ -28,6 +28,15 @@ four_parts a b c d start one two three four nothing first second third fourth =
     fourth ∙ ap (λ o. o ++ d) (third ∙ ap (λ o. o ++ c) (second ∙ ap (λ o. o ++ b) (first ∙ ap (λ o. o ++ a) nothing)))
     ∙ four_pieces [] a b c d
 
+-- five pieces from nothing
+pub five_parts : (a b c d e start one two three four five : List ℕ) → start ≡ [] → one ≡ start ++ a → two ≡ one ++ b →
+    three ≡ two ++ c → four ≡ three ++ d → five ≡ four ++ e → five ≡ a ++ b ++ c ++ d ++ e
+five_parts a b c d e start one two three four five nothing first second third fourth fifth =
+    fifth
+    ∙ ap (λ o. o ++ e) (fourth ∙ ap (λ o. o ++ d) (third ∙ ap (λ o. o ++ c) (second ∙ ap (λ o. o ++ b)
+    (first ∙ ap (λ o. o ++ a) nothing))))
+    ∙ five_pieces [] a b c d e
+
 next_one : (text : ℕ → List ℕ) (count number : ℕ) → number < count →
     each_from text (count - number) number ≡ text number ++ each_from text (count - (number + 1)) (number + 1)
 next_one text count number lt =

@@ -48,19 +48,16 @@ shape_text : (a b c d e f g : List ℕ) → (a ++ b ++ c ++ d ++ e) ++ f ++ g �
     ++ (b ++ (c ++ (d ++ (e ++ (f ++ g)))))
 shape_text a b c d e f g = simp append_assoc
 
+shape_of_arrays : (a b c d e f g h : List ℕ) → (a ++ b ++ c ++ d ++ e) ++ f ++ g ++ h ≡ a
+    ++ (b ++ (c ++ (d ++ (e ++ ((f ++ g) ++ (h ++ []))))))
+shape_of_arrays a b c d e f g h = simp (append_assoc, append-nil)
+
 text_splits : (form : TextForm) → HasStatements form → (fresh : Bool) (p : PlainWordProgram) →
     words_text form fresh p ≡ word_header_text p ++ (sizes_text p.width p.frame.modulus p.frame.lanes
     ++ (functions_text ++ (factors_of p ++ (quotients_of p ++ after_tables form fresh p))))
 text_splits with_arrays has fresh p =
-    let header = word_header_text p in
-    let sizes = sizes_text p.width p.frame.modulus p.frame.lanes in
-    let first = first_values_text own_arrays_text fresh in
-    let arrays = first ++ arrays_text (words_of_array p) in
-    let phases = phases_of with_arrays p in
-    ap (λ y. front_text p ++ y) (sym (append_assoc first (arrays_text (words_of_array p)) phases))
-    ∙ shape_text header sizes functions_text (factors_of p) (quotients_of p) arrays phases
-    ∙ ap (λ y. header ++ (sizes ++ (functions_text ++ (factors_of p ++ (quotients_of p ++ (arrays ++ y))))))
-    (sym (append-nil phases))
+    shape_of_arrays (word_header_text p) (sizes_text p.width p.frame.modulus p.frame.lanes) functions_text (factors_of p)
+    (quotients_of p) (first_values_text own_arrays_text fresh) (arrays_text (words_of_array p)) (phases_of with_arrays p)
 text_splits (named_function name) has fresh p =
     shape_text (word_header_text p) (sizes_text p.width p.frame.modulus p.frame.lanes) functions_text (factors_of p)
     (quotients_of p)

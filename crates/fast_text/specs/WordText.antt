@@ -184,13 +184,17 @@ named_function_text name fresh p =
     ++ first_values_text (callers_arrays_text fresh) fresh
     ++ functions_to_link_text name (words_of_array p) p.frame.procs (length p.phases)
 
+-- its sizes and counts as macros
+abbrev pub macros_text : List ℕ → PlainWordProgram → List ℕ
+macros_text capitals p =
+    lengths_text capitals p.frame.size (words_of_array p) ++ line_bytes_text capitals (bytes_of_line p)
+    ++ counts_text capitals p.frame.modulus p.frame.procs (length p.phases)
+
 -- and its header
 abbrev pub named_header_text : List ℕ → Bool → PlainWordProgram → List ℕ
 named_header_text name fresh p =
     let capitals = map capital name in
-    word_header_text p ++ guard_text capitals ++ lengths_text capitals p.frame.size (words_of_array p)
-    ++ line_bytes_text capitals (bytes_of_line p)
-    ++ counts_text capitals p.frame.modulus p.frame.procs (length p.phases)
+    word_header_text p ++ guard_text capitals ++ macros_text capitals p
     ++ first_values_text (callers_arrays_text fresh) fresh
     ++ linkage_text (asked_text capitals name ++ declared_functions_text name (word_type_text (p.width.half == 65536)))
 

@@ -5,7 +5,7 @@ ghost use Rattle.icode.specs.Limits.{IsHeaderWithin};
 ghost use Rattle.icode.specs.Plain.{plain_tables};
 ghost use Rattle.listing_text.specs.Wording.{header_of};
 ghost use Rattle.word_code.specs.View.{plain_word_stmt, plain_word_body, plain_word_phases, plain_word_program};
-ghost use Rattle.fast_text.specs.WordText.{loop_text, word_stmt_text, word_body_text, word_header_text, word_table_text, word_tables_text, declared_text, word_phase_text, all_phases_text, front_text, arrays_and_phases_text, named_function_text, named_header_text, words_text};
+ghost use Rattle.fast_text.specs.WordText.{loop_text, word_stmt_text, word_body_text, word_header_text, word_table_text, word_tables_text, declared_text, word_phase_text, all_phases_text, front_text, arrays_and_phases_text, named_function_text, macros_text, named_header_text, words_text};
 ghost use Rattle.fast_text.specs.FunctionText.{each_from};
 ghost use Rattle.fast_text.specs.TextForm.{text_form};
 ghost use Rattle.fast_text.specs.WordNests.{is_word_nest_within, are_word_nests_within, are_word_phases_within};
@@ -228,6 +228,24 @@ fn print_function(
     Ok(out)
 }
 
+// The sizes and counts of a function as macros.
+fn put_macros(
+    out: &mut Vec<u8>,
+    capitals: &[u8],
+    program: &WordProgram,
+) -> Result<(), AllocError>
+    requires header { IsHeaderWithin program.now.size program.now.modulus program.now.procs
+        program.now.line program.now.lanes program.now.regs }
+    ensures { OnOk result (out.new.items ≡ out.old.items
+        ++ macros_text capitals.now (plain_word_program program.now)) }
+{
+    let words = array_words(program.size, program.line);
+    let phases = program.phases.len() as u64;
+    put_lengths(out, capitals, program.size, words)?;
+    put_line_bytes(out, capitals, program.line, program.half)?;
+    put_counts(out, capitals, program.modulus, program.procs, phases)
+}
+
 // The header of a function to link.
 fn print_header(
     alloc: Global,
@@ -242,13 +260,9 @@ fn print_header(
 {
     let mut out = Vec::new(alloc);
     let capitals = in_capitals(alloc, name)?;
-    let words = array_words(program.size, program.line);
-    let phases = program.phases.len() as u64;
     put_first(&mut out, program)?;
     put_guard(&mut out, &capitals)?;
-    put_lengths(&mut out, &capitals, program.size, words)?;
-    put_line_bytes(&mut out, &capitals, program.line, program.half)?;
-    put_counts(&mut out, &capitals, program.modulus, program.procs, phases)?;
+    put_macros(&mut out, &capitals, program)?;
     put_callers_first_values(&mut out, fresh)?;
     put_linked(&mut out, &capitals, name, program.half == 65536)?;
     Ok(out)

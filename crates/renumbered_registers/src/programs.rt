@@ -128,7 +128,7 @@ pub fn renumbered_leaves_the_same()
     ensures { RenumberedLeavesTheSame }
 {}
 
-/// A program whose registers are in order stays as it is: so does each listing of `code`, text for text.
+/// A program whose registers are in order already stays as it is.
 #[tactic(auto, using(crate::proofs::Law::in_order_stays))]
 pub fn in_order_stays()
     ensures { InOrderStays }
