@@ -44,9 +44,9 @@ factors_of p = word_tables_text (codes "t") 0 p.frame.tables
 abbrev quotients_of : PlainWordProgram → List ℕ
 quotients_of p = word_tables_text (codes "u") 0 p.quotients
 
-shape_text : (a b c d e f g : List ℕ) → (a ++ b ++ c ++ d ++ e) ++ f ++ g ≡ a
-    ++ (b ++ (c ++ (d ++ (e ++ (f ++ g)))))
-shape_text a b c d e f g = simp append_assoc
+shape_of_function : (a b c d e f g h : List ℕ) → (a ++ b ++ c ++ d ++ e) ++ f ++ g ++ h ≡ a
+    ++ (b ++ (c ++ (d ++ (e ++ (f ++ (g ++ h))))))
+shape_of_function a b c d e f g h = simp append_assoc
 
 shape_of_arrays : (a b c d e f g h : List ℕ) → (a ++ b ++ c ++ d ++ e) ++ f ++ g ++ h ≡ a
     ++ (b ++ (c ++ (d ++ (e ++ ((f ++ g) ++ (h ++ []))))))
@@ -59,9 +59,9 @@ text_splits with_arrays has fresh p =
     shape_of_arrays (word_header_text p) (sizes_text p.width p.frame.modulus p.frame.lanes) functions_text (factors_of p)
     (quotients_of p) (first_values_text own_arrays_text fresh) (arrays_text (words_of_array p)) (phases_of with_arrays p)
 text_splits (named_function name) has fresh p =
-    shape_text (word_header_text p) (sizes_text p.width p.frame.modulus p.frame.lanes) functions_text (factors_of p)
-    (quotients_of p)
-    (phases_of (named_function name) p) (end_of (named_function name) fresh p)
+    shape_of_function (word_header_text p) (sizes_text p.width p.frame.modulus p.frame.lanes) functions_text (factors_of p)
+    (quotients_of p) (phases_of (named_function name) p) (first_values_text (callers_arrays_text fresh) fresh)
+    (functions_to_link_text name (words_of_array p) p.frame.procs (length p.phases))
 text_splits (named_header name) has fresh p = absurd has
 
 -- ---- where tables and phases end

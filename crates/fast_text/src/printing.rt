@@ -229,11 +229,7 @@ fn print_function(
 }
 
 // The sizes and counts of a function as macros.
-fn put_macros(
-    out: &mut Vec<u8>,
-    capitals: &[u8],
-    program: &WordProgram,
-) -> Result<(), AllocError>
+fn put_macros(out: &mut Vec<u8>, capitals: &[u8], program: &WordProgram) -> Result<(), AllocError>
     requires header { IsHeaderWithin program.now.size program.now.modulus program.now.procs
         program.now.line program.now.lanes program.now.regs }
     ensures { OnOk result (out.new.items ≡ out.old.items
