@@ -172,13 +172,13 @@ def checked_name(listing, words, name):
 
 
 def name_trials():
-    """Calls that answer what is wrong with a name, or None."""
+    """Calls that answer what is wrong with a name, or None. Each word is tried in one form in which it stands."""
+    seen = set()
     for modulus, lanes, words in FORMS:
         listing = laned(modulus, lanes)
         text = called((*words, "--name", "forward"), listing)[1]
-        yield from ((checked_name, listing, words, name) for name in sorted(words_of(text)))
-    for name in KEYWORDS:
-        yield checked_name, GOOD, (), name
+        yield from ((checked_name, listing, words, name) for name in sorted(words_of(text) - seen))
+        seen |= words_of(text)
     for name in FREE_NAMES:
         yield compiles, GOOD, (), name
 

@@ -52,6 +52,8 @@ COMPILERS = (
     ("clang", "-O1", "-g", "-fsanitize=address,undefined", "-fno-sanitize-recover=all"),
     ("gcc", "-O1", "-g", "-fsanitize=thread"),
 )
+# GCC notes how long vectors are passed, and a listing of others may have a table that it does not use.
+QUIET = ("-Wno-psabi", "-Wno-unused-const-variable")
 CHECKED = (13, 18, 19, 20, 21, 22)
 LONGEST = 20_000
 
@@ -240,12 +242,12 @@ class Case:
         """The words that compile the text into a program of the folder."""
         if not self.is_function:
             self.write(f"{folder}/text.c", text)
-            return [f"{TOP}/examples/compile.sh", f"{folder}/text.c", f"{folder}/program", *self.compiler]
+            return [f"{TOP}/examples/compile.sh", f"{folder}/text.c", f"{folder}/program", *self.compiler, *QUIET]
         self.write(f"{folder}/first.c", text)
         self.write(f"{folder}/first.h", self.fast("--name", "first", "--header")[1])
         self.write(f"{folder}/second.c", called(["spiral-fast", "--name", "second"], self.given)[1])
         self.write(f"{folder}/second.h", called(["spiral-fast", "--name", "second", "--header"], self.given)[1])
-        return [f"{TOP}/checks/compile_named.sh", folder, "first", "second", f"{folder}/program", *self.compiler]
+        return [f"{TOP}/checks/compile_named.sh", folder, "first", "second", f"{folder}/program", *self.compiler, *QUIET]
 
     @staticmethod
     def write(path, text):

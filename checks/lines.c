@@ -27,7 +27,7 @@ void do_phase(uint64_t phase, uint64_t processor);
 
 /* For each line which processors write it in this phase, and which touch it: a bit for each of 16. */
 static uint16_t writers[MOST_LINES], touchers[MOST_LINES];
-static uint64_t accesses;
+static uint64_t accessed;
 static uint64_t processor;
 
 static size_t line_of(size_t array, const char *place) {
@@ -51,7 +51,7 @@ static void note_access(const void *place, size_t bytes, int writes) {
     const char *at = place;
     for (size_t array = 0; array < array_count; array++)
         if (at >= arrays[array].first && at < arrays[array].first + arrays[array].bytes) {
-            accesses++;
+            accessed += bytes;
             for (size_t line = line_of(array, at); line <= line_of(array, at + bytes - 1); line++)
                 note_line(line, writes);
         }
@@ -105,6 +105,6 @@ int main(void) {
             do_phase(phase, processor);
         shared += shared_lines();
     }
-    printf("%zu lines shared, %" PRIu64 " accesses\n", shared, accesses);
+    printf("%zu lines shared, %" PRIu64 " bytes accessed\n", shared, accessed);
     return EXIT_SUCCESS;
 }

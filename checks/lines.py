@@ -28,14 +28,11 @@ REQUESTS = (
     "wht 4096 mod 17 procs 8 line 8 lanes 4",
     "idft 576 mod 577 root 5 procs 3 line 8",
 )
-# A request, options, and whether some lines are shared.
+# Requests and options by which some lines are shared.
 CONTROLS = (
     ("dft 1024 mod 12289 root 10302 procs 4 line 8", ["--words", "32"]),
-    ("dft 1024 mod 12289 root 10302 procs 4", []),
+    ("dft 64 mod 193 root 11 procs 4", []),
 )
-FUNCTION = """
-static __attribute__((aligned(64))) WORD in[NAME_WORDS], out[NAME_WORDS], work[NAME_WORK];
-"""
 
 
 def output(words, text=""):
@@ -98,9 +95,9 @@ class Text:
         output([*command, "-fsanitize=thread", "-c", f"{self.folder}/logged.c", "-o", f"{self.folder}/logged.o"])
         output([*command, "-DLINE=64", "-c", f"{TOP}/checks/lines.c", "-o", f"{self.folder}/lines.o"])
         output([compiler, f"{self.folder}/logged.o", f"{self.folder}/lines.o", "-o", f"{self.folder}/program"])
-        shared, accesses = re.match(r"(\d+) lines shared, (\d+) accesses", output([f"{self.folder}/program"])).groups()
-        if int(accesses) < 2 * self.words:
-            sys.exit(f"lines: only {accesses} accesses were seen in {self.folder}")
+        shared, accessed = re.match(r"(\d+) lines shared, (\d+) bytes", output([f"{self.folder}/program"])).groups()
+        if int(accessed) < 2 * 4 * self.words:
+            sys.exit(f"lines: too few accesses were seen: {accessed} bytes")
         return int(shared)
 
 
