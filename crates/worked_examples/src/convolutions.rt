@@ -1,4 +1,4 @@
-// Cyclic convolutions, and what `convolve` makes of their lines. The answers are those of reference/convolutions.py.
+// Cyclic convolutions, and what `convolve` makes of their lines. The answers are those of checks/reference/convolutions.py.
 
 use crate::call::{long_tells, tells, written};
 use crate::rows::all_answer;

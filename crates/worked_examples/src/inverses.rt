@@ -1,4 +1,4 @@
-// The inverse of a Fourier transform, in every command. The answers are those of reference/.
+// The inverse of a Fourier transform, in every command. The answers are those of checks/reference/.
 
 use crate::rows::all_answer;
 use std::test::Fail;

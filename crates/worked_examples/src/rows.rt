@@ -1,4 +1,4 @@
-// Calls whose answers are worked out from the definitions, or by the reference in reference/.
+// Calls whose answers are worked out from the definitions, or by the reference in checks/reference/.
 
 use crate::call::{same, told};
 use std::alloc::Global;

@@ -1,5 +1,5 @@
 // One vector of the generator for each of many requests: its transform by the plain sums, and the counts that the
-// reference in reference/ works out. Sizes of all shapes, moduli that are not prime, roots of any order.
+// reference in checks/reference/ works out. Sizes of all shapes, moduli that are not prime, roots of any order.
 
 ghost use Rattle.std.specs.Prelude.{◌≡◌, ◌<◌, All, IfOk, vec_len};
 

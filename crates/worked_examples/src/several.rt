@@ -1,4 +1,4 @@
-// Fourier transforms of several dimensions, in every command. The answers are those of reference/.
+// Fourier transforms of several dimensions, in every command. The answers are those of checks/reference/.
 
 use crate::rows::all_answer;
 use std::test::Fail;

@@ -90,7 +90,7 @@ fn results(alloc: Global, machine: &Machine) -> Result<Vec<u64>, Fail> {
 }
 
 // A request of size 4 modulo 17, and its transform of 1 2 3 4. Those of the inverse and of two
-// dimensions are by the reference in reference/.
+// dimensions are by the reference in checks/reference/.
 const WAYS: &str = "\
 dft 4 mod 17 root 4|10 7 15 6
 dft 4 mod 17 root 4 procs 2 line 1|10 7 15 6

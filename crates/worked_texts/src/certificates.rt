@@ -21,7 +21,7 @@ fn verdict(alloc: Global, c: &Ctx, text: &str) -> Result<String, Fail> {
     }
 }
 
-// A request, its certificate, and what is said of it. Costs are by hand and by the reference in reference/.
+// A request, its certificate, and what is said of it. Costs are by hand and by the reference in checks/reference/.
 const CERTIFICATES: &str = "\
 dft 4 mod 17 root 4|{\"rows\":[[2,2,\"leaf\",0,0],[4,9,\"ct\",2,2]],\"size\":4,\"version\":2,\"weight\":1}~|least 9
 dft 4 mod 17 root 4 procs 2|{\"rows\":[[2,2,\"leaf\",0,0],[4,12,\"ct\",2,2]],\"size\":4,\"version\":2,\"weight\":1}~|least 12

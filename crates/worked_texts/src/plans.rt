@@ -15,7 +15,7 @@ use tree_model::{Ctx, Tree, admissible, before, cost, loads, stores};
 use worked_rows::{check, number};
 
 // A request, and its plan: the tree, its cost, and the words that its passes load and store. Those
-// of inverses and of several dimensions are by the reference in reference/.
+// of inverses and of several dimensions are by the reference in checks/reference/.
 const PLANS: &str = "\
 dft 4 mod 17 root 4|ct(leaf(2),leaf(2)) 9 4 4
 dft 1 mod 2 root 1|leaf(1) 0 1 1

@@ -184,7 +184,7 @@ fn inverses(rt: HostRuntime) -> Result<(), Fail> {
     check(rt.alloc(), INVERSES, answer)
 }
 
-// The same for several dimensions, by the reference in reference/.
+// The same for several dimensions, by the reference in checks/reference/.
 const DIMENSIONS: &str = "\
 dft 2x2 mod 17 root 16x16; dim 2 2; 1 2 3 4|10 15 13 0
 dft 2x2 mod 17 root 16x16 procs 2 line 1; dim 2 2; 1 2 3 4|10 15 13 0

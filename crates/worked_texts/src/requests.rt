@@ -135,7 +135,7 @@ fn lines(rt: HostRuntime) -> Result<(), Fail> {
 }
 
 // The line of a convolution, and what it asks for or what is wrong with it, by the matcher of fronts in
-// reference/convolutions.py.
+// checks/reference/convolutions.py.
 const CONVOLUTIONS: &str = "\
 conv 4 mod 17 root 4 unroll 2 budget 21 weight 1000|Ok(Request { kind: Dft, size: 4, modulus: 17, root: 4, dimensions: One, procs: 1, line: 1, lanes: 1, unroll: 2, budget: 21, weight: 1000 })
 conv 4 mod 15 root 4|Ok(Request { kind: Dft, size: 4, modulus: 15, root: 4, dimensions: One, procs: 1, line: 1, lanes: 1, unroll: 8, budget: 100000000, weight: 1 })
