@@ -19,7 +19,7 @@ mod spelling;
 pub use conv::read_conv;
 pub use fault::{Field, RequestFault};
 pub use request::read_request;
-pub use schedules::{Schedule, ScheduleFault, read_schedule};
+pub use schedules::{Mix, MixFault, Schedule, ScheduleFault, read_mix, read_schedule};
 
 /// A line spells one request at most, and has an answer and no other.
 pub fn lines_have_one_answer()
