@@ -15,7 +15,7 @@ ROW = re.compile(r"^row_of (?:\((\w+)[^)]*\)|(\w+)) =\s+row (\d+) (.*?)\[\]\)?$"
 PART = re.compile(r'\((?:codes "([^"]*)"|\w+ \w+), (None|Some \w+)\)')
 # Of each program where its statuses stand, and its tests.
 PROGRAMS = {
-    "spiral": ("spiral_words/specs/SpiralStatus", ["crates/worked_examples/src/*.rt", "checks/refuse_memory.sh"]),
+    "spiral": ("spiral_words/specs/Statuses", ["crates/worked_examples/src/*.rt", "checks/refuse_memory.sh"]),
     "spiral-fast": ("fast_main/specs", ["checks/fast_refusals.py", "checks/refuse_memory.sh"]),
 }
 
