@@ -3,7 +3,8 @@
 
 A name of code is a word in backticks made of letters, digits, underscores and `::`; it has to stand in crates/. On docs/PROVED.md it
 has to stand in src/ or specs/, and in a line that begins with crates in bold in one of these crates. Each such crate has to be there.
-A path in backticks has to lead to a file or folder of the repository, of a crate, or of a crate's src/; the ending may be left out.
+A path in backticks has to lead to a file or folder of the repository, of a crate, or of a crate's src/; the ending may be left out. Or it
+is CRATE/EDIT, an edit of the crate's wrong/.
 """
 
 import pathlib
@@ -56,7 +57,8 @@ def faults_of(page, words):
 
 
 def leads(start, path):
-    return any(next(TOP.glob(f"{start}/{path}{ending}"), None) for ending in ("", ".antt", ".rt"))
+    places = [f"{start}/{path}{ending}" for ending in ("", ".antt", ".rt")] + [f"{start}/{path.replace('/', '/wrong/')}.edit"]
+    return any(next(TOP.glob(place), None) for place in places)
 
 
 def main():
