@@ -17,10 +17,15 @@ word_of() {
   sed -n 's/^void .*(\(uint[0-9]*_t\) \*out.*/\1/p' "$folder/$1.h" | head -n 1
 }
 
+# what the arrays but the input hold before the first phase, by the header: any bytes, or 0
+before=0
+if grep -q ': any words before the first phase' "$folder/$first.h"; then
+  before=165
+fi
 capitals=$(echo "$first" | tr a-z A-Z)
 exec "$compiler" -std=gnu11 -Wall -Wextra -Werror -pthread "$@" \
   -DFIRST="$first" -DFIRST_PHASE="${first}_phase" -DFIRST_HEADER="\"$folder/$first.h\"" -DFIRST_WORD="$(word_of "$first")" \
   -DSECOND="$second" -DSECOND_HEADER="\"$folder/$second.h\"" -DSECOND_WORD="$(word_of "$second")" \
-  -DSIZE="${capitals}_SIZE" -DWORDS="${capitals}_WORDS" -DWORK="${capitals}_WORK" -DMODULUS="${capitals}_MODULUS" \
+  -DSIZE="${capitals}_SIZE" -DBEFORE=$before -DARRAY_WORDS="${capitals}_WORDS" -DWORK="${capitals}_WORK" -DMODULUS="${capitals}_MODULUS" \
   -DPROCS="${capitals}_PROCS" -DPHASES="${capitals}_PHASES" \
   "$here/named.c" "$folder/$first.c" "$folder/$second.c" -o "$program"

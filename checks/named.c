@@ -1,8 +1,8 @@
 /*
  * Runs two functions of `spiral-fast --name` for one transform, each in a thread of its own over arrays of its own, and
  * then the first one phase by phase, with a thread for each processor. Reads vectors of numbers from standard input, and
- * writes the line of each result. The three results have to be the same, where each byte of the other
- * arrays is 0xa5 before.
+ * writes the line of each result. The three results have to be the same, where each byte of the
+ * arrays but the input is BEFORE at first.
  *
  * checks/compile_named.sh says with which macros it is compiled.
  */
@@ -16,9 +16,9 @@
 #include FIRST_HEADER
 #include SECOND_HEADER
 
-static alignas(64) FIRST_WORD in[WORDS], out[WORDS], work[WORK];
-static alignas(64) FIRST_WORD phased[WORDS], phase_work[WORK];
-static alignas(64) SECOND_WORD second_in[WORDS], second_out[WORDS], second_work[WORK];
+static alignas(64) FIRST_WORD in[ARRAY_WORDS], out[ARRAY_WORDS], work[WORK];
+static alignas(64) FIRST_WORD phased[ARRAY_WORDS], phase_work[WORK];
+static alignas(64) SECOND_WORD second_in[ARRAY_WORDS], second_out[ARRAY_WORDS], second_work[WORK];
 
 static void *run_first(void *unused) {
     (void)unused;
@@ -81,14 +81,14 @@ static int read_vector(void) {
     return 1;
 }
 
-/* Words that are no residues, where the headers say that any may stand. */
+/* Words that are no residues, where the header says that any may stand; else 0. */
 static void spoil(void) {
-    memset(out, 165, sizeof out);
-    memset(phased, 165, sizeof phased);
-    memset(second_out, 165, sizeof second_out);
-    memset(work, 165, sizeof work);
-    memset(phase_work, 165, sizeof phase_work);
-    memset(second_work, 165, sizeof second_work);
+    memset(out, BEFORE, sizeof out);
+    memset(phased, BEFORE, sizeof phased);
+    memset(second_out, BEFORE, sizeof second_out);
+    memset(work, BEFORE, sizeof work);
+    memset(phase_work, BEFORE, sizeof phase_work);
+    memset(second_work, BEFORE, sizeof second_work);
 }
 
 static int are_same(void) {
