@@ -67,7 +67,7 @@ judged() {
     failed=$((failed + 1))
     echo "differs: $name by $*"
     head -n 5 "$work/errors"
-    diff "$work/wanted" "$work/got" | head -n 4 || true
+    diff "$work/wanted" "$work/got" | head -n 4 | cut -c1-200 || true
   fi
 }
 

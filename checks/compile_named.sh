@@ -23,9 +23,11 @@ if grep -q ': any words before the first phase' "$folder/$first.h"; then
   before=165
 fi
 capitals=$(echo "$first" | tr a-z A-Z)
-exec "$compiler" -std=gnu11 -Wall -Wextra -Werror -pthread "$@" \
+# (the texts have macros of their own, so those of named.c are for it alone)
+compile=("$compiler" -std=gnu11 -Wall -Wextra -Werror -pthread "$@")
+"${compile[@]}" \
   -DFIRST="$first" -DFIRST_PHASE="${first}_phase" -DFIRST_HEADER="\"$folder/$first.h\"" -DFIRST_WORD="$(word_of "$first")" \
   -DSECOND="$second" -DSECOND_HEADER="\"$folder/$second.h\"" -DSECOND_WORD="$(word_of "$second")" \
-  -DSIZE="${capitals}_SIZE" -DBEFORE=$before -DARRAY_WORDS="${capitals}_WORDS" -DWORK="${capitals}_WORK" -DMODULUS="${capitals}_MODULUS" \
-  -DPROCS="${capitals}_PROCS" -DPHASES="${capitals}_PHASES" \
-  "$here/named.c" "$folder/$first.c" "$folder/$second.c" -o "$program"
+  -DSIZE="${capitals}_SIZE" -DARRAY_WORDS="${capitals}_WORDS" -DWORK="${capitals}_WORK" -DMODULUS="${capitals}_MODULUS" \
+  -DPROCS="${capitals}_PROCS" -DPHASES="${capitals}_PHASES" -DBEFORE=$before -c "$here/named.c" -o "$program.o"
+exec "${compile[@]}" "$program.o" "$folder/$first.c" "$folder/$second.c" -o "$program"
