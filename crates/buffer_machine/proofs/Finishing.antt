@@ -11,7 +11,7 @@ use Rattle.par_machine.specs.Running.{Running as Machine}
 use Rattle.buffer_machine.specs.declared.machine.BufMachine.TheInside.{Inside}
 use Rattle.buffer_machine.specs.Lent.{IsHeld, back_from, lent}
 use Rattle.buffer_machine.specs.Stand.{Stand, buffered_of, cleared, waits_of, IsStanding}
-use Rattle.buffer_machine.specs.View.{IsWhole}
+use Rattle.buffer_machine.specs.Views.{IsWhole}
 use Rattle.buffer_machine.specs.Walking.{IsWalking}
 use Rattle.buffer_machine.proofs.Direct.{finished_directly, finished_none_done}
 use Rattle.buffer_machine.proofs.Standing.{standing_anew}

@@ -6,7 +6,7 @@ pub mod Standing
 pub mod Lens
 pub mod Whole
 pub mod Named
-pub mod Few
+pub mod CompletionLengths
 pub mod Direct
 pub mod Lends
 pub mod Finishing

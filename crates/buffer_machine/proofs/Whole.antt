@@ -41,9 +41,9 @@ use Rattle.par_machine.specs.Skipped.{skipped}
 use Rattle.buffer_machine.specs.Stand.{Stand, backlog_at, waits_of, buffered_of, acted_stand, cleared, first_busy}
 use Rattle.buffer_machine.specs.Stand.{settled_stand, first_stand, HasLens, AreSound, IsStanding}
 use Rattle.buffer_machine.specs.Running.{Running}
-use Rattle.buffer_machine.specs.View.{IsWhole, running_of}
+use Rattle.buffer_machine.specs.Views.{IsWhole, running_of}
 use Rattle.buffer_machine.proofs.Fitting.{can_be_done, acts_steps}
-use Rattle.buffer_machine.proofs.Few.{few_step, few_start, few_events}
+use Rattle.buffer_machine.proofs.CompletionLengths.{few_step, few_start, few_events}
 use Rattle.buffer_machine.proofs.Lens.{acts_none}
 use Rattle.buffer_machine.proofs.Standing.{queue_is, standing_acted, acted_buffered, settled_buffered, standing_settled}
 use Rattle.buffer_machine.proofs.Standing.{standing_anew, standing_written, written_buffered, first_is_busy}

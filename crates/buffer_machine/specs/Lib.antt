@@ -9,7 +9,7 @@ pub mod Ready
 pub mod Running
 pub mod Good
 pub mod Walking
-pub mod View
+pub mod Views
 pub mod Lent
 pub mod Fresh
 pub mod Next

@@ -37,7 +37,7 @@ impl Model for BufMachine {
 
     ghost Value = { Running };
 
-    ghost use Rattle.buffer_machine.specs.View.{running_of, IsWhole};
+    ghost use Rattle.buffer_machine.specs.Views.{running_of, IsWhole};
 
     ghost view = { running_of };
 

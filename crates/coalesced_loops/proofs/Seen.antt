@@ -13,9 +13,9 @@ use Rattle.icode.specs.Plain.{body_of, plain_part, plain_stmt, plain_body}
 use Rattle.icode.proofs.Bools.{item_passes}
 use Rattle.icode.proofs.Views.{plain_stmt-Loop}
 use Rattle.nests.specs.Nests.{counts_in}
-use Rattle.nests.specs.View.{plain_parts}
+use Rattle.nests.specs.Views.{plain_parts}
 use Rattle.coalesced_loops.specs.Coalesced.{lifted_depth, lifted_parts, as_one, coalesced_stmt, coalesced_body}
-use Rattle.coalesced_loops.specs.View.{lifted_part}
+use Rattle.coalesced_loops.specs.Views.{lifted_part}
 
 -- ---- parts
 

@@ -1,3 +1,3 @@
 pub mod Coalesced
 pub mod Laws
-pub mod View
+pub mod Views

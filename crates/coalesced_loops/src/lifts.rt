@@ -2,9 +2,9 @@
 
 ghost use Rattle.std.specs.Prelude.{◌≡◌, ◌++◌, map, IfOk, OnOk};
 ghost use Rattle.icode.specs.Plain.{plain_expr, plain_part, plain_op, plain_body};
-ghost use Rattle.nests.specs.View.{plain_parts};
+ghost use Rattle.nests.specs.Views.{plain_parts};
 ghost use Rattle.coalesced_loops.specs.Coalesced.{lifted_depth, lifted_parts, lifted_place, lifted_op, lifted_body};
-ghost use Rattle.coalesced_loops.specs.View.{lifted_part};
+ghost use Rattle.coalesced_loops.specs.Views.{lifted_part};
 
 use icode::program::{Expr, Op, Part, Stmt};
 use memory::NoMemory;

@@ -9,29 +9,29 @@ use Rattle.icode.specs.Limits.{is_small_positive, is_stmt_within, is_body_within
 use Rattle.icode.specs.Plain.{PlainStmt, PlainBody, PlainProgram, Loop, Do, NoStmts, AndStmts, body_of}
 use Rattle.icode.proofs.Bools.{both_true}
 use Rattle.icode.proofs.Lengths.{body_length}
-use Rattle.code_check.specs.Joined.{joined}
+use Rattle.code_check.specs.Concatenated.{concatenated}
 use Rattle.code_check.specs.Live.{loop_before, pruned, pruned_before}
 
 -- joined statements
 
-pub joined-nil : (body : PlainBody) → joined body NoStmts ≡ body
-joined-nil NoStmts = refl
-joined-nil (AndStmts s body) = ap (AndStmts s) (joined-nil body)
+pub concatenated-nil : (body : PlainBody) → concatenated body NoStmts ≡ body
+concatenated-nil NoStmts = refl
+concatenated-nil (AndStmts s body) = ap (AndStmts s) (concatenated-nil body)
 
-pub joined_assoc : (a b c : PlainBody) → joined (joined a b) c ≡ joined a (joined b c)
-joined_assoc NoStmts b c = refl
-joined_assoc (AndStmts s a) b c = ap (AndStmts s) (joined_assoc a b c)
+pub concatenated_assoc : (a b c : PlainBody) → concatenated (concatenated a b) c ≡ concatenated a (concatenated b c)
+concatenated_assoc NoStmts b c = refl
+concatenated_assoc (AndStmts s a) b c = ap (AndStmts s) (concatenated_assoc a b c)
 
-pub body_of-append : (xs ys : List PlainStmt) → body_of (xs ++ ys) ≡ joined (body_of xs) (body_of ys)
+pub body_of-append : (xs ys : List PlainStmt) → body_of (xs ++ ys) ≡ concatenated (body_of xs) (body_of ys)
 body_of-append [] ys = refl
 body_of-append (x ∷ xs) ys = ap (AndStmts x) (body_of-append xs ys)
 
 loop_alone : (count : ℕ) (body rest : PlainBody) → loop_before count body rest
-    ≡ joined (loop_before count body NoStmts) rest
+    ≡ concatenated (loop_before count body NoStmts) rest
 loop_alone count NoStmts rest = refl
 loop_alone count (AndStmts s body) rest = refl
 
-pub pruned_alone : (s : PlainStmt) (rest : PlainBody) → pruned_before s rest ≡ joined (pruned_before s NoStmts) rest
+pub pruned_alone : (s : PlainStmt) (rest : PlainBody) → pruned_before s rest ≡ concatenated (pruned_before s NoStmts) rest
 pruned_alone (Loop count body) rest = loop_alone count (pruned body) rest
 pruned_alone (Do op) rest = refl
 

@@ -8,5 +8,5 @@ pub mod Phases
 pub mod Faults
 pub mod Laws
 pub mod Live
-pub mod Joined
+pub mod Concatenated
 pub mod Workers

@@ -3,7 +3,7 @@
 ghost use Rattle.std.specs.Prelude.{◌≡◌, IfOk, OnOk};
 ghost use Rattle.icode.specs.Plain.{NoStmts, plain_stmt, plain_body};
 ghost use Rattle.code_check.specs.Live.{plain_lives, pruned, pruned_before};
-ghost use Rattle.code_check.specs.Joined.{joined};
+ghost use Rattle.code_check.specs.Concatenated.{concatenated};
 
 use icode::program::{Op, Stmt};
 use memory::NoMemory;
@@ -20,7 +20,7 @@ pub(crate) enum Live<'a> {
 #[cycle(live)]
 fn keep<'a>(alloc: Global, stmt: &'a Stmt, kept: &mut Vec<Live<'a>>) -> Result<(), NoMemory>
     ensures { OnOk result (plain_lives kept.new.items
-        ≡ joined (plain_lives kept.old.items) (pruned_before (plain_stmt stmt.now) NoStmts)) }
+        ≡ concatenated (plain_lives kept.old.items) (pruned_before (plain_stmt stmt.now) NoStmts)) }
 {
     match stmt {
         Stmt::Loop { count, body } => {

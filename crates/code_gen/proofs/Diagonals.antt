@@ -7,10 +7,10 @@ use Rattle.operators.specs.Sum.{list_below}
 use Rattle.operators.proofs.Lists.{at-list_below, length-list_below, list_below-same}
 use Rattle.sigma_spl.specs.Nest.{PlainFactors, spread, factor_at, factor_count, inner_of}
 use Rattle.code_gen.specs.PassCode.Statements.{diagonal_of}
-use Rattle.operators.specs.TensorPaths.Path.{Path, count_of, grown, size_under}
-use Rattle.operators.specs.declared.tensor_paths.Tensor.{Tensor}
-use Rattle.operators.specs.declared.tensor_paths.Tensor.TheVariants.{Blocks, Columns}
-use Rattle.loop_nests.proofs.PassPlaces.Carries.{inner-below}
+use Rattle.operators.specs.Paths.Tensors.{Path, count_of, grown, size_under}
+use Rattle.operators.specs.declared.paths.Tensor.{Tensor}
+use Rattle.operators.specs.declared.paths.Tensor.TheVariants.{Blocks, Columns}
+use Rattle.loop_nests.proofs.Places.Carries.{inner-below}
 
 -- one tensor more
 pub grown-is : (t : Tensor) (n : ℕ) → count_of t * n ≡ grown t n

@@ -6,8 +6,8 @@ use Rattle.icode.specs.declared.program.Stmt.{Stmt}
 use Rattle.icode.specs.declared.program.Stmt.TheVariants as stmts
 use Rattle.icode.specs.Plain.{PlainBody, PlainStmt, NoStmts, AndStmts, Do, plain_stmt, plain_op, plain_body}
 use Rattle.icode.proofs.Views.{plain_stmt-Do}
-use Rattle.kernel_gen.specs.Instructions.{op_of}
-use Rattle.kernel_gen.specs.declared.straight.Instruction.{Instruction}
+use Rattle.kernel_gen.specs.KernelOps.{op_of}
+use Rattle.kernel_gen.specs.declared.straight.KernelOp.{KernelOp}
 use Rattle.code_gen.specs.PassCode.Statements.{followed_by, straight_body}
 
 pub plain-append : (xs ys : List Stmt) → plain_body (xs ++ ys) ≡ followed_by (plain_body xs) (plain_body ys)
@@ -27,13 +27,13 @@ followed-one NoStmts ys s = refl
 followed-one (AndStmts x xs) ys s = ap (AndStmts x) (followed-one xs ys s)
 
 -- the statements of code, and one more
-pub straight-more : (before : List Instruction) (a : Instruction) →
+pub straight-more : (before : List KernelOp) (a : KernelOp) →
     straight_body (before ++ a ∷ []) ≡ followed_by (straight_body before) (AndStmts (Do (op_of a)) NoStmts)
 straight-more [] a = refl
 straight-more (b ∷ before) a = ap (AndStmts (Do (op_of b))) (straight-more before a)
 
 -- the statements of one more instruction
-pub straight-take : (xs : List Instruction) (i : ℕ) (d : Instruction) → i < length xs →
+pub straight-take : (xs : List KernelOp) (i : ℕ) (d : KernelOp) → i < length xs →
     straight_body (take (i + 1) xs) ≡ followed_by (straight_body (take i xs))
     (AndStmts (Do (op_of (get_or xs i d))) NoStmts)
 straight-take xs i d below = ap straight_body (take_more xs i d below) ∙ straight-more (take i xs) (get_or xs i d)

@@ -15,7 +15,7 @@ use Rattle.sigma_spl.specs.declared.nest.Nest.{Nest}
 use Rattle.sigma_spl.specs.declared.work.Work.{Work}
 use Rattle.code_gen.specs.Views.{plain_passes, plain_phases, tables_in}
 use Rattle.code_gen.specs.declared.host.Host.{Host}
-use Rattle.operators.specs.TensorPaths.Path.{Path, size_under}
+use Rattle.operators.specs.Paths.Tensors.{Path, size_under}
 
 -- the entries of all copies of a diagonal under the tensors of a path
 abbrev pub entries_under : Path → List ℕ → List ℕ

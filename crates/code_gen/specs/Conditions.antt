@@ -8,7 +8,7 @@ use Rattle.sigma_spl.specs.Merged.{PlainMerged}
 use Rattle.sigma_spl.specs.Nest.{PlainFactors, values, twiddles, repeated, spread, PlainMultiplier, PlainNest}
 use Rattle.sigma_spl.specs.Nest.{factor_count}
 use Rattle.perm_algebra.specs.Affine.{Sum}
-use Rattle.operators.specs.TensorPaths.Path.{size_under}
+use Rattle.operators.specs.Paths.Tensors.{size_under}
 
 -- a place for each of n registers, which can be written
 pub record HasPlaces (n : ℕ) (sums : List Sum) : Type 0 where

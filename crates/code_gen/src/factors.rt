@@ -8,7 +8,7 @@ ghost use Rattle.sigma_spl.specs.Nest.{inner_of};
 ghost use Rattle.sigma_spl.specs.Views.{plain_factors};
 ghost use Rattle.code_gen.specs.Additions.{entries_under};
 ghost use Rattle.code_gen.specs.Conditions.{CanList};
-ghost use Rattle.operators.specs.TensorPaths.Path.{size_under};
+ghost use Rattle.operators.specs.Paths.Tensors.{size_under};
 
 use memory::NoMemory;
 use operators::Tensor;

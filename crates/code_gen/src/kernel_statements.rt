@@ -11,12 +11,12 @@ use crate::outputs::put_output;
 use crate::site::{Item, Site};
 use crate::statements::put_op;
 use icode::program::Stmt;
-use kernel_gen::{Instruction, Kernel};
+use kernel_gen::{KernelOp, Kernel};
 use memory::NoMemory;
 use sigma_spl::Nest;
 use std::alloc::Global;
 
-fn straight(alloc: Global, code: &[Instruction]) -> Result<Vec<Stmt>, NoMemory>
+fn straight(alloc: Global, code: &[KernelOp]) -> Result<Vec<Stmt>, NoMemory>
     ensures { IfOk result (λ y. body_in y ≡ straight_body code.now) }
 {
     let mut body = Vec::new(alloc);

@@ -1,6 +1,6 @@
-pub mod ConvolutionCommands
-pub mod ListingCommands
-pub mod FormulaCommands
+pub mod Convolutions
+pub mod Listings
+pub mod Formulas
 pub mod Input
 pub mod Checked
 pub mod Equations

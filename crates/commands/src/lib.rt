@@ -14,27 +14,27 @@ ghost use Rattle.commands.specs.Input.Outcomes.{Meets, SourceMeets};
 ghost use Rattle.commands.specs.Equations.Requests.{outcomes_by_request, work_for};
 
 mod check;
-mod convolution_commands;
+mod convolutions;
 mod data;
-mod formula_commands;
+mod formulas;
 mod input;
-mod listing_commands;
+mod listings;
 mod plans;
 mod sample;
 mod streams;
-mod texts;
+mod documents;
 
-pub use convolution_commands::convolve;
+pub use convolutions::convolve;
 use data::{run, trace};
-pub use formula_commands::by_formula;
+pub use formulas::by_formula;
 use input::ask;
 pub use input::asked;
 use io_edge::{Feed, Sink, Source, write_all};
-pub use listing_commands::exec;
+pub use listings::exec;
 use matrix_meaning::Request;
 use spiral_words::{Command, Document, RequestCommand, Status};
 use std::alloc::Global;
-use texts::text_of;
+use documents::text_of;
 
 // Writes the text of a document.
 fn write_text<O: Sink>(

@@ -11,7 +11,7 @@ ghost use Rattle.spiral_words.specs.Statuses.Status.{IsDefined};
 ghost use Rattle.commands.specs.Input.Refusals.{IsRefusal};
 ghost use Rattle.runs.specs.Stream.{HasNoStranger};
 
-use crate::texts::good_program;
+use crate::documents::good_program;
 use icode::action::Counts;
 use listing_text::put;
 use matrix_meaning::Request;

@@ -19,15 +19,15 @@ use Rattle.listing_text.specs.ListingGrammar.{listing_grammar}
 use Rattle.listing_text.specs.Progress.{finish, step}
 use Rattle.listing_text.specs.Texts.{is_listing}
 use Rattle.listing_text.proofs.ListingReads.{listing_judges}
-use Rattle.word_code.specs.declared.choose.WordSize.{WordSize}
-use Rattle.word_code.specs.Choice.{allows, size_for}
+use Rattle.word_code.specs.declared.laziness.WordSize.{WordSize}
+use Rattle.word_code.specs.Laziness.{allows, size_for}
 use Rattle.fast_text.specs.TextForm.{TextForm}
 use Rattle.fast_main.specs.declared.status.Status.{Status}
 use Rattle.fast_main.specs.declared.status.Status.TheVariants.{InputWritten, ListingSyntax, Success, TooLong, Usage}
 use Rattle.fast_main.specs.declared.status.Status.TheVariants.{WideModulus}
-use Rattle.fast_main.specs.FastWords.Asked.{Asked, IsLaneCount, asked, form_in, lanes_in, lanes_named, size_in}
-use Rattle.fast_main.specs.FastWords.Asked.{together}
-use Rattle.fast_main.specs.FastWords.CommandLine.{fast_app}
+use Rattle.fast_main.specs.Options.Asked.{Asked, IsLaneCount, asked, form_in, lanes_in, lanes_named, size_in}
+use Rattle.fast_main.specs.Options.Asked.{together}
+use Rattle.fast_main.specs.Options.CommandLine.{fast_app}
 use Rattle.fast_main.specs.Outcome.{IsAnswer, IsOutcome, IsOutcomeOfListing, IsTranslated}
 use Rattle.fast_main.specs.Status.{listing_limit, status_of_check}
 use Rattle.fast_main.specs.Translation.{AreSoundWords, KeepsInput, fast_text, wanted_words, writer_in}

@@ -11,7 +11,7 @@ use Rattle.icode.specs.Machine.{IsApart, results}
 use Rattle.icode.specs.Plain.{PlainBody, PlainProgram}
 use Rattle.icode.specs.Program.{plain_program, code_of, Fits}
 use Rattle.code_check.proofs.MarksComplete.{marks_decide}
-use Rattle.word_code.specs.InPlace.InPlace.{in_place}
+use Rattle.word_code.specs.InPlace.Sharing.{in_place}
 use Rattle.word_code.proofs.Allowed.{lazy_for}
 use Rattle.word_code.proofs.FreshWords.{fresh_words_ignore_leftovers}
 use Rattle.word_code.proofs.InPlace.Fitting.{in_place_fits, in_place_apart}
@@ -37,13 +37,13 @@ use Rattle.two_tables.specs.Factored.{large_table, may_be_split}
 use Rattle.two_tables.proofs.Law.{factored_leaves_the_same}
 use Rattle.nests.proofs.InPlace.{after, itself}
 use Rattle.word_code.specs.declared.program.WordProgram.{WordProgram}
-use Rattle.word_code.specs.declared.choose.WordSize.{WordSize}
-use Rattle.word_code.specs.declared.choose.WordSize.TheVariants.{Of32, Of64}
+use Rattle.word_code.specs.declared.laziness.WordSize.{WordSize}
+use Rattle.word_code.specs.declared.laziness.WordSize.TheVariants.{Of32, Of64}
 use Rattle.word_code.specs.Bytes.{bytes_of_line}
-use Rattle.word_code.specs.Choice.{allows, fast_words, laziness_for, takes_narrow}
+use Rattle.word_code.specs.Laziness.{allows, fast_words, laziness_for, takes_narrow}
 use Rattle.word_code.specs.Laws.{IsLazyWithin}
-use Rattle.word_code.specs.View.{plain_word_program}
-use Rattle.fast_main.specs.FastWords.Asked.{IsLaneCount}
+use Rattle.word_code.specs.Views.{plain_word_program}
+use Rattle.fast_main.specs.Options.Asked.{IsLaneCount}
 use Rattle.fast_main.specs.Translation.{has_cheap_products, on_several, on_lanes, in_blocks, prepared, words_for}
 use Rattle.fast_main.specs.Translation.{AreSoundWords, HasWholeLines, IsFaithful, IsOrderFree}
 use Rattle.fast_main.proofs.Laned.{laned_by}

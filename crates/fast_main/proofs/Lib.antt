@@ -1,4 +1,4 @@
-pub mod FastWords
+pub mod Options
 pub mod Faithful
 pub mod Existence
 pub mod Laned

@@ -18,10 +18,10 @@ use Rattle.fast_main.specs.Outcome.{IsOutcome}
 use Rattle.fast_main.specs.Words.{bits_of}
 use Rattle.fast_main.specs.Status.{status_of_check}
 use Rattle.fast_main.specs.Translation.{IsWritten, KeepsInput, fast_text}
-use Rattle.fast_main.specs.FastWords.Asked.{Asked, asked}
+use Rattle.fast_main.specs.Options.Asked.{Asked, asked}
 use Rattle.data_stream.specs.Parts.Part.{first_part}
-use Rattle.word_code.specs.declared.choose.WordSize.{WordSize}
-use Rattle.word_code.specs.Choice.{allows, size_for}
+use Rattle.word_code.specs.declared.laziness.WordSize.{WordSize}
+use Rattle.word_code.specs.Laziness.{allows, size_for}
 
 -- The first lines of a text are a front of more of them
 

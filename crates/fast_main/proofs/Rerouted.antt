@@ -5,7 +5,7 @@ use Rattle.std.proofs.lemmas.List.{length-map}
 use Rattle.icode.specs.Limits.{is_small_positive, is_op_within, is_stmt_within, is_body_within, are_phases_within}
 use Rattle.icode.specs.Plain.{PlainOp, PlainProgram, Load, Store}
 use Rattle.word_code.specs.Bare.{bare_stmt, bare_body}
-use Rattle.word_code.specs.InPlace.InPlace.{in_place, routes_of}
+use Rattle.word_code.specs.InPlace.Sharing.{in_place, routes_of}
 use Rattle.word_code.specs.InPlace.Routes.{rerouted_op, rerouted_stmt, rerouted_body, rerouted_phase}
 use Rattle.word_code.specs.WordProgram.{Note, WordStmt, WordBody, PlainWordProgram, Loop, Do, NoStmts, AndStmts}
 use Rattle.fast_text.specs.WordTexts.{is_reduction_of_words, is_note_of, has_notes_of_words, have_notes_of_words}

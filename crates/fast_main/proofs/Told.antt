@@ -6,9 +6,9 @@ use Rattle.std.specs.Io.KnownBytes.{Appends, Consumes}
 use Rattle.io_edge.specs.Told.{IsOver, Tells}
 use Rattle.io_edge.proofs.ToldLemmas.{over_left, tells_held, consumes_held, left_over}
 use Rattle.std.proofs.KnownBytes.{Appends-nil, Consumes-nil, prepend_known-nil}
-use Rattle.fast_main.specs.FastWords.Asked.{Asked, asked}
-use Rattle.fast_main.specs.declared.fast_words.options.Refusal.{Refusal}
-use Rattle.fast_main.specs.declared.fast_words.options.Refusal.TheVariants as words
+use Rattle.fast_main.specs.Options.Asked.{Asked, asked}
+use Rattle.fast_main.specs.declared.options.asked.Refusal.{Refusal}
+use Rattle.fast_main.specs.declared.options.asked.Refusal.TheVariants as words
 use Rattle.data_stream.specs.declared.parts.RestFault.{RestFault}
 use Rattle.data_stream.specs.declared.parts.RestFault.TheVariants as rest
 use Rattle.data_stream.specs.Parts.Part.{first_part, IsWholePart, GivesPart}

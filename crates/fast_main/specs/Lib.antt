@@ -1,4 +1,4 @@
-pub mod FastWords
+pub mod Options
 pub mod Words
 pub mod Translation
 pub mod Rows

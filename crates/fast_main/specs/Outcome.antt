@@ -9,7 +9,7 @@ use Rattle.listing_text.specs.Texts.{is_listing}
 use Rattle.code_check.specs.declared.CheckFault.{CheckFault}
 use Rattle.code_check.specs.declared.CheckFault.TheVariants as faults
 use Rattle.code_check.specs.Refusals.{PassesCheck, IsCause, action_limit}
-use Rattle.word_code.specs.Choice.{allows, size_for}
+use Rattle.word_code.specs.Laziness.{allows, size_for}
 use Rattle.io_edge.specs.Faults.{Rose}
 use Rattle.io_edge.specs.Taken.{AppendsPrefix}
 use Rattle.fast_main.specs.declared.status.Status.{Status}
@@ -18,7 +18,7 @@ use Rattle.fast_main.specs.declared.status.Status.TheVariants.{WriteFault, NoMem
 use Rattle.fast_main.specs.Status.{listing_limit, status_of_check}
 use Rattle.fast_main.specs.Translation.{fast_text, AreSoundWords, IsWritten, KeepsInput}
 use Rattle.fast_main.specs.Words.{bits_of}
-use Rattle.fast_main.specs.FastWords.Asked.{Asked, asked}
+use Rattle.fast_main.specs.Options.Asked.{Asked, asked}
 use Rattle.data_stream.specs.Parts.Part.{first_part, HasPartEnded, IsInPart}
 
 -- the bytes are the listing of no program, and lost in a line

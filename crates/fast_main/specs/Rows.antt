@@ -1,6 +1,6 @@
 -- The table of statuses: of each its number, and its line after `spiral_fast: `.
 use Rattle.std.specs.Prelude.{[], ◌∷◌, None, Some, codes}
-use Rattle.io_edge.specs.StatusRows.Rows.{PlainRow, row}
+use Rattle.io_edge.specs.Status.Rows.{PlainRow, row}
 use Rattle.fast_main.specs.declared.status.Status.{Status}
 use Rattle.fast_main.specs.declared.status.Status.TheVariants.{Success, Usage, ListingSyntax, OverSteps, Address}
 use Rattle.fast_main.specs.declared.status.Status.TheVariants.{Register, LineShared, WideModulus, ReadFault, WriteFault}

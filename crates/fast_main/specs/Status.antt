@@ -2,13 +2,13 @@
 use Rattle.std.specs.Prelude.{ℕ, ◌^◌, List, codes, Ok, Err, Result}
 use Rattle.code_check.specs.declared.CheckFault.{CheckFault}
 use Rattle.code_check.specs.declared.CheckFault.TheVariants as check
-use Rattle.fast_main.specs.declared.fast_words.options.Refusal.{Refusal}
-use Rattle.fast_main.specs.declared.fast_words.options.Refusal.TheVariants as words
+use Rattle.fast_main.specs.declared.options.asked.Refusal.{Refusal}
+use Rattle.fast_main.specs.declared.options.asked.Refusal.TheVariants as words
 use Rattle.data_stream.specs.declared.parts.RestFault.{RestFault}
 use Rattle.data_stream.specs.declared.parts.RestFault.TheVariants as rest
 use Rattle.listing_text.specs.declared.listing.ListingFault.{ListingFault}
 use Rattle.listing_text.specs.declared.listing.ListingFault.TheVariants as listing
-use Rattle.io_edge.specs.StatusRows.Rows.{line_of}
+use Rattle.io_edge.specs.Status.Rows.{line_of}
 use Rattle.fast_main.specs.declared.status.Status.{Status}
 use Rattle.fast_main.specs.declared.status.Status.TheVariants.{Success, Usage, ListingSyntax, OverSteps, Address}
 use Rattle.fast_main.specs.declared.status.Status.TheVariants.{Register, LineShared, ReadFault, NoMemory}

@@ -7,8 +7,8 @@ use Rattle.icode.specs.Leftovers.{AreLeftovers, Leftovers}
 use Rattle.icode.specs.Machine.{IsApart, results}
 use Rattle.icode.specs.Plain.{PlainProgram}
 use Rattle.code_check.specs.Marks.{is_fresh}
-use Rattle.fast_main.specs.FastWords.Asked.{Asked}
-use Rattle.word_code.specs.InPlace.InPlace.{in_place}
+use Rattle.fast_main.specs.Options.Asked.{Asked}
+use Rattle.word_code.specs.InPlace.Sharing.{in_place}
 use Rattle.fused_loops.specs.Fused.{fused, large_size}
 use Rattle.interchange.specs.Interchanged.{interchanged}
 use Rattle.renumbered_registers.specs.Renumbered.{renumbered}
@@ -16,10 +16,10 @@ use Rattle.coalesced_loops.specs.Coalesced.{coalesced}
 use Rattle.loop_lanes.specs.Lanes.{can_be_laned, laned}
 use Rattle.two_tables.specs.Factored.{factored, large_table}
 use Rattle.word_code.specs.Bare.{WordsFit}
-use Rattle.word_code.specs.declared.choose.WordSize.{WordSize}
-use Rattle.word_code.specs.declared.choose.WordSize.TheVariants.{Of32, Of52, Of64}
+use Rattle.word_code.specs.declared.laziness.WordSize.{WordSize}
+use Rattle.word_code.specs.declared.laziness.WordSize.TheVariants.{Of32, Of52, Of64}
 use Rattle.word_code.specs.Bytes.{bytes_of_line}
-use Rattle.word_code.specs.Choice.{fast_words, size_for}
+use Rattle.word_code.specs.Laziness.{fast_words, size_for}
 use Rattle.word_code.specs.FreshWords.{word_results_among}
 use Rattle.word_code.specs.Input.{input_writer}
 use Rattle.word_code.specs.WordMachine.{under, word_results}

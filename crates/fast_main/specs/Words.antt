@@ -1,7 +1,7 @@
 -- Words of a size.
 use Rattle.std.specs.Prelude.{ℕ}
-use Rattle.word_code.specs.declared.choose.WordSize.{WordSize}
-use Rattle.word_code.specs.declared.choose.WordSize.TheVariants.{Of32, Of52, Of64}
+use Rattle.word_code.specs.declared.laziness.WordSize.{WordSize}
+use Rattle.word_code.specs.declared.laziness.WordSize.TheVariants.{Of32, Of52, Of64}
 
 -- how many bits words of the size have at most
 abbrev pub bits_of : WordSize → ℕ

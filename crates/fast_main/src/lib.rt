@@ -8,22 +8,22 @@ ghost use Rattle.icode.specs.Plain.{PlainProgram};
 ghost use Rattle.listing_text.specs.Texts.{is_listing};
 ghost use Rattle.code_check.specs.Refusals.{PassesCheck, action_limit};
 ghost use Rattle.data_stream.specs.Parts.Part.{first_part};
-ghost use Rattle.word_code.specs.declared.choose.WordSize.{WordSize as SpecWordSize};
-ghost use Rattle.word_code.specs.Choice.{allows, size_for};
-ghost use Rattle.fast_main.specs.FastWords.Asked.{Asked, IsLaneCount, asked};
+ghost use Rattle.word_code.specs.declared.laziness.WordSize.{WordSize as SpecWordSize};
+ghost use Rattle.word_code.specs.Laziness.{allows, size_for};
+ghost use Rattle.fast_main.specs.Options.Asked.{Asked, IsLaneCount, asked};
 ghost use Rattle.fast_main.specs.Status.{listing_limit};
 ghost use Rattle.fast_main.specs.Translation.{AreSoundWords, HasWholeLines, IsOrderFree, KeepsInput, fast_text};
 ghost use Rattle.fast_main.specs.declared.status.Status.{Status as SpecStatus};
 ghost use Rattle.fast_main.specs.Outcome.{Accounts, AccountsFor, IsOutcome};
 
-mod fast_words;
+mod options;
 mod prepare;
 mod rows;
 mod run;
 mod status;
 mod words;
 
-pub use fast_words::{Options, Refusal, options_of};
+pub use options::{Options, Refusal, options_of};
 pub use run::{LISTING_LIMIT, fast_run};
 pub use status::Status;
 

@@ -3,7 +3,7 @@ ghost use Rattle.std.specs.Prelude.{◌≡◌, ◌≢◌, ℕ, IfOk};
 ghost use Rattle.icode.specs.Machine.{IsApart};
 ghost use Rattle.icode.specs.Program.{plain_program, code_of, Fits};
 ghost use Rattle.loop_lanes.specs.Lanes.{IsLanes};
-ghost use Rattle.fast_main.specs.FastWords.Asked.{IsLaneCount};
+ghost use Rattle.fast_main.specs.Options.Asked.{IsLaneCount};
 ghost use Rattle.fast_main.specs.Translation.{has_cheap_products, laned_if_coalesced, on_several, on_lanes, in_blocks, prepared};
 
 use coalesced_loops::coalesce_loops;
@@ -15,7 +15,7 @@ use memory::NoMemory;
 use renumbered_registers::renumber_registers;
 use std::alloc::Global;
 use two_tables::{LARGE_TABLE, factor_tables};
-use word_code::choose::WordSize;
+use word_code::laziness::WordSize;
 
 /// Whether two products cost less than an entry of a large table.
 fn has_cheap_products(size: WordSize) -> bool

@@ -2,16 +2,16 @@
 ghost use Rattle.std.specs.Prelude.{◌≡◌};
 ghost use Rattle.io_edge.specs.Faults.{HasCause};
 ghost use Rattle.io_edge.specs.Taken.{WritesAll};
-ghost use Rattle.io_edge.specs.StatusRows.View.{plain_row};
+ghost use Rattle.io_edge.specs.Status.Views.{plain_row};
 ghost use Rattle.fast_main.specs.Rows.{row_of};
 ghost use Rattle.fast_main.specs.Status.{code_of, note_line};
 
 use crate::Status;
-use io_edge::{Row, Sink, WriteFault, row};
+use io_edge::{StatusRow, Sink, WriteFault, row};
 
 impl Status {
     // The row of a status.
-    fn row(&self) -> Row
+    fn row(&self) -> StatusRow
         ensures { plain_row result ≡ row_of self.now }
     {
         match *self {

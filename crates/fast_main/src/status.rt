@@ -1,5 +1,5 @@
 // What a call answers with.
-use crate::fast_words::Refusal;
+use crate::options::Refusal;
 use crate::run::LISTING_LIMIT;
 use code_check::CheckFault;
 use data_stream::RestFault;

@@ -3,7 +3,7 @@
 ghost use Rattle.std.specs.Prelude.{◌≡◌};
 ghost use Rattle.fast_main.specs.Words.{bits_of};
 
-use word_code::choose::WordSize;
+use word_code::laziness::WordSize;
 
 /// How many bits words of the size have at most.
 pub(crate) fn bits_of(size: WordSize) -> u64

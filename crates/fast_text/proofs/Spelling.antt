@@ -13,12 +13,12 @@ use Rattle.icode.specs.Plain.{MulTable, Tile}
 use Rattle.icode.specs.Plain as plain
 use Rattle.listing_text.specs.Reading.{above_all}
 use Rattle.listing_text.proofs.ReadBack.{small_fits}
-use Rattle.word_code.specs.declared.choose.WordSize.{WordSize}
-use Rattle.word_code.specs.declared.choose.WordSize.TheVariants.{Of32, Of52, Of64}
-use Rattle.word_code.specs.Choice.{narrow, wide, laziness_for}
+use Rattle.word_code.specs.declared.laziness.WordSize.{WordSize}
+use Rattle.word_code.specs.declared.laziness.WordSize.TheVariants.{Of32, Of52, Of64}
+use Rattle.word_code.specs.Laziness.{narrow, wide, laziness_for}
 use Rattle.word_code.specs.Laws.{IsLazyWithin}
 use Rattle.word_code.specs.Needs.{needs}
-use Rattle.word_code.specs.Quicken.{Laziness, Header, Settled, header_of, bound_at, half_up, greater, settled}
+use Rattle.word_code.specs.Quicken.{PlainLaziness, Header, Settled, header_of, bound_at, half_up, greater, settled}
 use Rattle.word_code.specs.Quicken.{then_settled}
 use Rattle.word_code.specs.Quicken.{noted, loosest, loosened, quick_stmt, quick_body, quick_alone, quick_phase}
 use Rattle.word_code.specs.Quicken.{quotients_of, quickened}
@@ -86,7 +86,7 @@ quotient_below base m c some lt =
 
 -- ---- notes
 
-module _ (z : Laziness) (m : ℕ) (lazy : IsLazyWithin z m) (pos : 0 < m) (base : base_of z.width ≤ above_all) where
+module _ (z : PlainLaziness) (m : ℕ) (lazy : IsLazyWithin z m) (pos : 0 < m) (base : base_of z.width ≤ above_all) where
   room : z.limit * m < above_all
   room = omega (arith, lazy.room, base)
 
@@ -181,7 +181,7 @@ module _ (z : Laziness) (m : ℕ) (lazy : IsLazyWithin z m) (pos : 0 < m) (base 
         (body_words body 0 (loosest z h) parts.0 loosest_sane) (phases_words phases parts.1)
 
 -- what is left of a phase loosens the bounds of A and B alone
-alone_words : (z : Laziness) (m : ℕ) → IsLazyWithin z m → 0 < m → base_of z.width ≤ above_all → (h : Header) →
+alone_words : (z : PlainLaziness) (m : ℕ) → IsLazyWithin z m → 0 < m → base_of z.width ≤ above_all → (h : Header) →
     h.modulus ≡ m → (body : PlainBody) (bounds : List ℕ) → is_body_within m body 0 ≡ true → IsSane z.limit bounds →
     have_notes_of_words (quick_alone z h body bounds).body ≡ true
 alone_words z m lazy pos base h same plain.NoStmts bounds w sane = refl
@@ -195,7 +195,7 @@ alone_words z m lazy pos base h same (plain.AndStmts stmt rest) bounds w sane =
     (stmt_words y m looser pos base h same stmt 0 bounds parts.0 sane)
     (alone_words z m lazy pos base h same rest one.bounds parts.1 (stmt_keeps y m looser pos base h stmt bounds sane))
 
-pub quickened_spells : (z : Laziness) (p : PlainProgram) → IsWithinLimits p → IsLazyWithin z p.modulus →
+pub quickened_spells : (z : PlainLaziness) (p : PlainProgram) → IsWithinLimits p → IsLazyWithin z p.modulus →
     base_of z.width ≤ above_all → z.width.half < above_all → IsSpellable (quickened z p)
 quickened_spells z p within lazy base half =
     let m = p.modulus in

@@ -2,7 +2,7 @@
 
 ghost use Rattle.std.specs.Prelude.{◌≡◌, ◌++◌, ◌+◌, ◌^◌, ◌<◌, ◌≤◌, IsTrue, OnOk, codes, flat_map};
 ghost use Rattle.icode.specs.Plain.{plain_expr, plain_op};
-ghost use Rattle.word_code.specs.View.{plain_note};
+ghost use Rattle.word_code.specs.Views.{plain_note};
 ghost use Rattle.fast_text.specs.WordText.{becomes_text, reduction_text, call_text, load_text, store_text, addition_text, subtraction_text, negation_text, const_product_text, entry_text, row_text, entries_text, table_product_text, sources_text, targets_text, tile_text, word_op_text};
 ghost use Rattle.fast_text.specs.WordNests.{is_tile_small};
 

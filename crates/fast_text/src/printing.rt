@@ -4,7 +4,7 @@ ghost use Rattle.std.specs.Prelude.{◌≡◌, ◌++◌, ◌+◌, ◌<◌, ◌�
 ghost use Rattle.icode.specs.Limits.{IsHeaderWithin};
 ghost use Rattle.icode.specs.Plain.{plain_tables};
 ghost use Rattle.listing_text.specs.Wording.{header_of};
-ghost use Rattle.word_code.specs.View.{plain_word_stmt, plain_word_body, plain_word_phases, plain_word_program};
+ghost use Rattle.word_code.specs.Views.{plain_word_stmt, plain_word_body, plain_word_phases, plain_word_program};
 ghost use Rattle.fast_text.specs.WordText.{loop_text, word_stmt_text, word_body_text, word_header_text, word_table_text, word_tables_text, declared_text, word_phase_text, all_phases_text, front_text, arrays_and_phases_text, named_function_text, macros_text, named_header_text, words_text};
 ghost use Rattle.fast_text.specs.FunctionText.{each_from};
 ghost use Rattle.fast_text.specs.TextForm.{text_form};

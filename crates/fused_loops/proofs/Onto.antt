@@ -6,15 +6,15 @@ use Rattle.std.specs.Prelude.{◌==◌}
 use Rattle.std.specs.List.{range_with_len}
 use Rattle.std.proofs.Math.Path.{fun_ext}
 use Rattle.std.proofs.lemmas.List.Elements.{Contains-append_left, Contains-append_right, Contains-append_cases}
-use Rattle.icode.specs.CodeLaws.Nests.{AreInRange}
+use Rattle.icode.specs.Sequences.Nests.{AreInRange}
 use Rattle.icode.specs.declared.action.Action.{Action}
 use Rattle.icode.specs.Actions.{Step, actions_of, steps_of_body}
 use Rattle.icode.specs.Lengths.{len_of_body}
 use Rattle.icode.specs.Machine.{Local, effects}
 use Rattle.icode.specs.Plain.{PlainBody, PlainProgram, Loop, Do, NoStmts, AndStmts}
 use Rattle.icode.proofs.Bools.{both_true}
-use Rattle.icode.proofs.CodeLaws.ByLane.{lists_follow}
-use Rattle.icode.proofs.CodeLaws.Stores.{length-registers}
+use Rattle.icode.proofs.Sequences.ByLane.{lists_follow}
+use Rattle.icode.proofs.Sequences.Stores.{length-registers}
 use Rattle.icode.proofs.Lengths.{stmt_length, body_length}
 use Rattle.fused_loops.specs.declared.blocks.Block.{Block}
 use Rattle.nests.specs.Nests.{counts_in, round_in}

@@ -4,7 +4,7 @@ use Rattle.std.proofs.Common.{refl, ap, ap₂, ◌∙◌, arith, eqb-true, leb-t
 use Rattle.std.proofs.Common.{sym, subst, ⊎_elim, append-nil, append_assoc, length-append}
 use Rattle.std.specs.Prelude.{slice_index, nat_le, ◌==◌}
 use Rattle.std.proofs.Math.Nat.{mul-le-mul_right}
-use Rattle.icode.specs.CodeLaws.Nests.{AreInRange}
+use Rattle.icode.specs.Sequences.Nests.{AreInRange}
 use Rattle.icode.specs.Expression.{parts_numbers, one_numbers}
 use Rattle.icode.specs.Plain.{PlainExpr, PlainParts, PlainPart, PlainOp, PlainBody, Sum, NoParts, AndParts, Var, Load}
 use Rattle.icode.specs.Plain.{Store, Loop, Do, NoStmts, AndStmts, PlainProgram}

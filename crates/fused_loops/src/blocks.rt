@@ -5,7 +5,7 @@
 ghost use Rattle.std.specs.Prelude.{◌≡◌, ◌≤◌, length, IfOk};
 ghost use Rattle.icode.specs.Plain.{Loop, plain_expr, plain_op, plain_stmt, plain_body};
 ghost use Rattle.nests.specs.Rounds.{first_load};
-ghost use Rattle.nests.specs.View.{plain_parts};
+ghost use Rattle.nests.specs.Views.{plain_parts};
 ghost use Rattle.fused_loops.specs.Blocks.{followed_by, followed_op, followed_in, factors_of, first_steps};
 ghost use Rattle.fused_loops.specs.Blocks.{blocks_with, blocks_of, shared};
 

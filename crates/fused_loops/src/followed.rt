@@ -3,7 +3,7 @@
 
 ghost use Rattle.std.specs.Prelude.{◌≡◌, ◌+◌, ◌^◌, ◌<◌, ◌≤◌, length, nat_le, take, slice_index};
 ghost use Rattle.icode.specs.Plain.{plain_part};
-ghost use Rattle.nests.specs.View.{plain_parts};
+ghost use Rattle.nests.specs.Views.{plain_parts};
 ghost use Rattle.fused_loops.specs.Blocks.{are_values, most_of, most, is_step, followed};
 
 use icode::program::Part;

@@ -41,7 +41,7 @@ use Rattle.icode.specs.Machine.{weighted, whole_counts}
 use Rattle.icode.specs.Plain.{PlainProgram}
 use Rattle.loop_merge.proofs.MultipliedPasses.Counts.{sum-costs, sum-loads, tables-last}
 use Rattle.loop_merge.proofs.MultipliedPasses.Lasts.{length-last}
-use Rattle.loop_merge.specs.JoinedPasses.Joined.{joined}
+use Rattle.loop_merge.specs.JoinedPasses.InOnePhase.{joined}
 use Rattle.loop_merge.specs.MultipliedPasses.Multiplied.{multiplied_last, with_factors}
 use Rattle.operators.specs.declared.target.Target.{Target}
 use Rattle.sigma_spl.specs.Lists.{LastIs}

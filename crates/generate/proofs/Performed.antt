@@ -9,7 +9,7 @@ use Rattle.std.proofs.lemmas.List.Elements.{All-head, All-tail, All-weaker}
 use Rattle.std.proofs.lemmas.List.Sums.{sum_by-cons, sum-map}
 use Rattle.code_gen.proofs.WholePrograms.PartShares.{parts_share}
 use Rattle.code_gen.proofs.WholePrograms.PhaseParts.{parts_in_a_row}
-use Rattle.code_gen.specs.PassCode.Contract.{Performs, joined, in_a_row}
+use Rattle.code_gen.specs.PassCode.Contract.{Performs, concatenated, in_a_row}
 use Rattle.code_gen.specs.PassCode.Program.{written_array}
 use Rattle.icode.proofs.Counting.{add-up, weighted-append}
 use Rattle.icode.proofs.Lists.{code_is}
@@ -96,17 +96,17 @@ pub record CountsPasses (h : Target) (ps : List (List PlainNest)) (counts : Coun
 
 parts-count : (h : Target) (t : ℕ) (source : Array) (ps : List (List PlainNest)) (parts : List (List Action)) →
     ((weight : ℕ) → All (HasShares h weight) ps) → contract.AreParts h t source ps parts →
-    CountsPasses h ps (counts_of h.lanes (joined parts))
+    CountsPasses h ps (counts_of h.lanes (concatenated parts))
 parts-count h t source [] [] shares are =
     record { operations = λ weight some. omega arith; loads = omega arith; stores = omega arith }
 parts-count h t source (zs ∷ ps) (part ∷ parts) shares are =
     let first = parts_share h zs _ _ part (λ weight. All-head (HasShares h weight) zs ps (shares weight)) are.0 in
     let rest = parts-count h (suc t) (written_array t (length ps)) ps parts
     (λ weight. All-tail (HasShares h weight) zs ps (shares weight)) are.1 in
-    let all = add-up h.lanes part (joined parts) in
+    let all = add-up h.lanes part (concatenated parts) in
     record {
       operations = λ weight some.
-          both h.procs _ _ _ _ _ (weighted-append h.lanes weight part (joined parts))
+          both h.procs _ _ _ _ _ (weighted-append h.lanes weight part (concatenated parts))
           (first.operations weight some) (rest.operations weight some)
           ∙ sym (sum_by-cons (pass_cost weight h.modulus) zs ps);
       loads = both h.procs _ _ _ _ _ all.loads first.loads rest.loads ∙ sym (sum_by-cons pass_loads zs ps);
@@ -232,7 +232,7 @@ cut-in (ps ∷ phases) passes is =
 -- the parts of each phase
 record AreByPhase (code : Code) (q f : ℕ) (phases : List (List (List PlainNest))) (parts : List (List (List Action))) : Type 0 where
   counts : map length parts ≡ map length phases
-  whole : map joined parts ≡ map (λ phase. acts code phase q) (range_with_len f (length phases))
+  whole : map concatenated parts ≡ map (λ phase. acts code phase q) (range_with_len f (length phases))
 
 by-phase : (code : Code) (q f : ℕ) (phases : List (List (List PlainNest))) (parts : List (List (List Action))) →
     contract.ArePhaseParts code q f phases parts → AreByPhase code q f phases parts

@@ -3,7 +3,7 @@ use Rattle.std.specs.Prelude.{ℕ, List}
 use Rattle.sigma_lower.specs.Merged.{tree_merged}
 use Rattle.icode.specs.Plain.{PlainProgram}
 use Rattle.matrix_meaning.specs.Parts.{inverted}
-use Rattle.loop_merge.specs.JoinedPasses.Joined.{joined}
+use Rattle.loop_merge.specs.JoinedPasses.InOnePhase.{joined}
 use Rattle.matrix_meaning.specs.declared.Request.{Request}
 use Rattle.code_gen.specs.PassCode.Program.{program_of}
 use Rattle.sigma_spl.specs.Merged.{PlainMerged}

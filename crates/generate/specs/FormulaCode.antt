@@ -1,3 +1,3 @@
 pub mod Code
-pub mod Joined
+pub mod Coalesced
 pub mod Letters

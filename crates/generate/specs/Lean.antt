@@ -8,7 +8,7 @@ use Rattle.icode.specs.declared.program.Array.TheVariants.{X}
 use Rattle.icode.specs.Machine.{Code, acts, counts_of, weighted, whole_counts, whole_lines}
 use Rattle.icode.specs.Plain.{PlainProgram}
 use Rattle.matrix_meaning.specs.declared.Request.{Request}
-use Rattle.code_gen.specs.PassCode.Contract.{Stays, in_a_row, joined}
+use Rattle.code_gen.specs.PassCode.Contract.{Stays, in_a_row, concatenated}
 use Rattle.code_gen.specs.PassCode.Program.{written_array}
 use Rattle.tree_model.specs.Breakdown.{Breakdown}
 use Rattle.tree_model.specs.WholePasses.{RequestPass, cost_of_pass, loads_of_pass, request_passes, whole_loads}
@@ -39,7 +39,7 @@ AreParts r t source (pass ∷ passes) (part ∷ parts) =
 pub record IsLeanList (r : Request) (phases : List (List RequestPass)) (code : Code) (q : ℕ) : Type 0 where
   pub parts : List (List (List Action))
   pub counts : map length parts ≡ map length phases
-  pub whole : map joined parts ≡ map (λ phase. acts code phase q) (range_with_len 0 (length code.lists))
+  pub whole : map concatenated parts ≡ map (λ phase. acts code phase q) (range_with_len 0 (length code.lists))
   pub each : AreParts r 0 X (flat_map (λ ps. ps) phases) (in_a_row parts)
 
 -- there is one phase, or there are two where there are several processors; the passes of all phases, one after

@@ -1,7 +1,7 @@
 // From a formula to a program that computes it.
 ghost use Rattle.std.specs.Prelude.{◌≡◌, ◌≤◌, IfOk};
 ghost use Rattle.generate.specs.FormulaCode.Code.{IsCodeOf};
-ghost use Rattle.generate.specs.FormulaCode.Joined.{phases_joined};
+ghost use Rattle.generate.specs.FormulaCode.Coalesced.{phases_coalesced};
 ghost use Rattle.generate.specs.FormulaCode.Letters.{program_as_it_stands, program_for};
 ghost use Rattle.generate.specs.FormulaPasses.Computes.{formula_merged};
 ghost use Rattle.icode.specs.Program.{plain_program};
@@ -10,7 +10,7 @@ ghost use Rattle.spl_ast.specs.Formula.{parts_of};
 
 use code_gen::emit_formula;
 use icode::program::Program;
-use loop_merge::{join_copies, merge};
+use loop_merge::{coalesce_copies, merge};
 use memory::NoMemory;
 use ring_mod::Modulus;
 use sigma_lower::lower_formula;
@@ -55,13 +55,13 @@ fn merge_formula(alloc: Global, modulus: &Modulus, formula: &Spl) -> Result<Merg
 {
     let sigma = lower_formula(alloc, modulus, formula)?;
     let merged = merge(alloc, sigma)?;
-    let joined = join_phases(alloc, merged)?;
-    Ok(joined)
+    let coalesced = coalesce_phases(alloc, merged)?;
+    Ok(coalesced)
 }
 
 // The same passes, with copies joined in each phase.
-fn join_phases(alloc: Global, merged: Merged) -> Result<Merged, NoMemory>
-    ensures { IfOk result (λ g. plain_merged g ≡ phases_joined (plain_merged merged)) }
+fn coalesce_phases(alloc: Global, merged: Merged) -> Result<Merged, NoMemory>
+    ensures { IfOk result (λ g. plain_merged g ≡ phases_coalesced (plain_merged merged)) }
 {
     let Merged {
         size,
@@ -69,14 +69,14 @@ fn join_phases(alloc: Global, merged: Merged) -> Result<Merged, NoMemory>
         lanes,
         phases,
     } = merged;
-    let mut joined = Vec::with_capacity(alloc, phases.len())?;
+    let mut coalesced = Vec::with_capacity(alloc, phases.len())?;
     for passes in phases {
-        joined.push(join_copies(alloc, passes)?)?;
+        coalesced.push(coalesce_copies(alloc, passes)?)?;
     }
     Ok(Merged {
         size,
         procs,
         lanes,
-        phases: joined,
+        phases: coalesced,
     })
 }

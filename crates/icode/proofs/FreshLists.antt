@@ -4,7 +4,7 @@ use Rattle.std.proofs.Common.{inl, inr, ⊎_elim, refl, sym, subst, arith, Conta
 use Rattle.std.specs.Prelude.{slice_get}
 use Rattle.std.proofs.lemmas.List.Elements.{Contains-append_cases, Contains-append_left, Contains-append_right}
 use Rattle.icode.specs.declared.action.Action.{Action}
-use Rattle.icode.specs.CodeLaws.Nests.{bodies, nest, AreInRange}
+use Rattle.icode.specs.Sequences.Nests.{bodies, nest, AreInRange}
 use Rattle.icode.proofs.Lines.{Contains-nil}
 
 -- nothing is known

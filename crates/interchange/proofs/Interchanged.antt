@@ -20,7 +20,7 @@ use Rattle.std.specs.Prelude.{slice_index_or}
 use Rattle.std.specs.List.{range_with_len, list_all}
 use Rattle.std.proofs.Math.Path.{fun_ext}
 use Rattle.std.proofs.lemmas.List.Elements.{Contains-append_left, Contains-append_right, All-contains}
-use Rattle.icode.specs.CodeLaws.Nests.{AreInRange}
+use Rattle.icode.specs.Sequences.Nests.{AreInRange}
 use Rattle.icode.proofs.Bools.{both_true}
 use Rattle.nests.proofs.Acts.{AreApart}
 use Rattle.nests.proofs.Swaps.{exchanged_loops}

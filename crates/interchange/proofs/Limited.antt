@@ -16,8 +16,8 @@ use Rattle.nests.specs.Nests.{counts_in, round_in, looped}
 use Rattle.interchange.specs.Exchanged.{exchanged_first, exchanged_parts, exchanged_place, exchanged_op}
 use Rattle.interchange.specs.Exchanged.{exchanged_round}
 use Rattle.nests.specs.Rounds.{first_store, first_load, are_independent}
-use Rattle.nests.specs.View.{loops_in}
-use Rattle.interchange.specs.View.{is_shallow, are_shallow}
+use Rattle.nests.specs.Views.{loops_in}
+use Rattle.interchange.specs.Views.{is_shallow, are_shallow}
 use Rattle.interchange.proofs.Exchanged.{first_cases, parts_cases}
 use Rattle.nests.proofs.Counts.{looped_is}
 use Rattle.nests.proofs.InPlace.{all-within}

@@ -8,8 +8,8 @@ use Rattle.interchange.specs.Interchanged.{nest_stmt, steps_less}
 use Rattle.std.specs.Prelude.{if◌then◌else◌}
 use Rattle.interchange.specs.Exchanged.{exchanged_round, exchanged_op}
 use Rattle.nests.specs.Rounds.{first_store, first_load}
-use Rattle.nests.specs.View.{are_independent_in, loops_in, one_loop}
-use Rattle.interchange.specs.View.{ordered_loop, exchanged_stmt, is_shallow, are_shallow, exchanged_in, sunk_loop}
+use Rattle.nests.specs.Views.{are_independent_in, loops_in, one_loop}
+use Rattle.interchange.specs.Views.{ordered_loop, exchanged_stmt, is_shallow, are_shallow, exchanged_in, sunk_loop}
 use Rattle.nests.proofs.Bools.{by_test}
 use Rattle.std.specs.List.{list_all}
 use Rattle.std.proofs.lemmas.List.Elements.{All-get_or}

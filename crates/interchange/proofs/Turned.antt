@@ -1,6 +1,6 @@
 -- The values of the loops of a nest where two of them are interchanged.
 use Rattle.std.proofs.Common.{◌≡◌, ℕ, zero, suc, List, [], ◌∷◌, ◌++◌, length, refl, ap}
-use Rattle.icode.specs.CodeLaws.Nests.{AreInRange}
+use Rattle.icode.specs.Sequences.Nests.{AreInRange}
 use Rattle.nests.proofs.Apart.{turned}
 
 pub turned_back : (n : ℕ) (us : List ℕ) → turned n (turned n us) ≡ us

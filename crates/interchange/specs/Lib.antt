@@ -1,4 +1,4 @@
 pub mod Exchanged
 pub mod Interchanged
 pub mod Laws
-pub mod View
+pub mod Views

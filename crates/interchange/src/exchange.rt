@@ -3,8 +3,8 @@
 ghost use Rattle.std.specs.Prelude.{◌≡◌, ◌+◌, ◌^◌, ◌<◌, length, drop};
 ghost use Rattle.icode.specs.Plain.{plain_part, plain_op, plain_stmt, plain_body};
 ghost use Rattle.interchange.specs.Exchanged.{exchanged_first, exchanged_parts, exchanged_op, exchanged_round};
-ghost use Rattle.interchange.specs.View.{factor_at, exchanged_stmt};
-ghost use Rattle.nests.specs.View.{plain_parts};
+ghost use Rattle.interchange.specs.Views.{factor_at, exchanged_stmt};
+ghost use Rattle.nests.specs.Views.{plain_parts};
 
 use icode::program::{Op, Part, Stmt};
 

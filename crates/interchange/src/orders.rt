@@ -6,8 +6,8 @@ ghost use Rattle.std.specs.Prelude.{◌≡◌, ◌+◌, ◌^◌, ◌<◌};
 ghost use Rattle.icode.specs.Plain.{plain_body, Loop, NoStmts, AndStmts, plain_stmt};
 ghost use Rattle.nests.specs.Rounds.{first_load};
 ghost use Rattle.interchange.specs.Interchanged.{steps_less};
-ghost use Rattle.nests.specs.View.{loops_in, one_loop};
-ghost use Rattle.interchange.specs.View.{exchanged_in, sunk_loop, ordered_loop};
+ghost use Rattle.nests.specs.Views.{loops_in, one_loop};
+ghost use Rattle.interchange.specs.Views.{exchanged_in, sunk_loop, ordered_loop};
 
 use crate::exchange::{exchange_op, exchange_round};
 use icode::program::{Op, Stmt};

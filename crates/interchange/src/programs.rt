@@ -6,8 +6,8 @@ ghost use Rattle.icode.specs.Plain.{Loop, plain_stmt, plain_body, plain_phases};
 ghost use Rattle.icode.specs.Program.{plain_program};
 ghost use Rattle.nests.specs.Nests.{is_nest, are_nests};
 ghost use Rattle.interchange.specs.Interchanged.{interchanged_nest, interchanged_body, interchanged};
-ghost use Rattle.nests.specs.View.{loops_in};
-ghost use Rattle.interchange.specs.View.{is_shallow, are_shallow};
+ghost use Rattle.nests.specs.Views.{loops_in};
+ghost use Rattle.interchange.specs.Views.{is_shallow, are_shallow};
 ghost use Rattle.interchange.specs.Laws.{InterchangedLeavesTheSame};
 
 use crate::orders::order;

@@ -1,10 +1,10 @@
 -- Kernels on the machine.
 use Rattle.std.proofs.Common.{◌≡◌, ℕ, ◌*◌, ◌<◌, ◌≤◌, ap, ◌∙◌, List, map}
 use Rattle.std.proofs.lemmas.List.FromFn.{fill_by_all}
-use Rattle.icode.specs.CodeLaws.Lanes.{Registers, lane_of}
-use Rattle.icode.proofs.CodeLaws.ByLane.{arithmetic_is_by_lane, weighted_is_by_lane}
+use Rattle.icode.specs.Sequences.Lanes.{Registers, lane_of}
+use Rattle.icode.proofs.Sequences.ByLane.{arithmetic_is_by_lane, weighted_is_by_lane}
 use Rattle.icode.specs.Machine.{counts_of, weighted}
-use Rattle.icode.proofs.CodeLaws.Placing.{slice_index-map, length-mapped}
+use Rattle.icode.proofs.Sequences.Placing.{slice_index-map, length-mapped}
 use Rattle.matrix_meaning.specs.declared.Kind.{Kind}
 use Rattle.matrix_meaning.specs.declared.Kind.TheVariants.{Dft, Wht, Idft}
 use Rattle.matrix_meaning.specs.Kind.{transform}
@@ -14,11 +14,11 @@ use Rattle.operators.proofs.Lists.{length-list_below, at-list_below}
 use Rattle.tree_model.specs.Breakdown.{Breakdown, leaf, node, size_of, IsWellFormed}
 use Rattle.kernel_gen.specs.Kernel.{tree_make, kernel_of}
 use Rattle.tree_model.specs.KernelCosts.{IsRoot, AllowsRoot, kernel_cost}
-use Rattle.kernel_gen.specs.Instructions.{actions_by}
+use Rattle.kernel_gen.specs.KernelOps.{actions_by}
 use Rattle.kernel_gen.specs.Kernels.{IsStraight, Transforms}
 use Rattle.kernel_gen.specs.Making.{Made}
 use Rattle.kernel_gen.proofs.Below.{AllBelow, AllBelow-all, AllBelow-at}
-use Rattle.kernel_gen.proofs.Instructions.{AreWithin-more, actions-arithmetic, actions-cost, actions-effect}
+use Rattle.kernel_gen.proofs.KernelOps.{AreWithin-more, actions-arithmetic, actions-cost, actions-effect}
 use Rattle.kernel_gen.proofs.Pieces.{Does, DoesAt}
 use Rattle.kernel_gen.proofs.Trees.{does-leaf, does-tree}
 

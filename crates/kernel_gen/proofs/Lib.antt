@@ -1,5 +1,5 @@
 pub mod Below
-pub mod Instructions
+pub mod KernelOps
 pub mod Residues
 pub mod Pieces
 pub mod Rows

@@ -10,7 +10,7 @@ use Rattle.tree_model.specs.declared.tree.Rule.TheVariants.{Gt, Ct, Split, Dim}
 use Rattle.tree_model.specs.Breakdown.{Breakdown, node, size_of}
 use Rattle.tree_model.specs.Trees.{PlainTrees, single, tensor, trees_size}
 use Rattle.kernel_gen.specs.declared.straight.Kernel.{Kernel as KernelRecord}
-use Rattle.kernel_gen.specs.declared.straight.Instruction.{Instruction}
+use Rattle.kernel_gen.specs.declared.straight.KernelOp.{KernelOp}
 use Rattle.kernel_gen.specs.declared.transform.Transform.{Transform}
 use Rattle.kernel_gen.specs.declared.writer.Writer.{Writer}
 use Rattle.kernel_gen.specs.Making.{Made, Maker, pick_make, then_make, rows_make}
@@ -105,7 +105,7 @@ wrote_tensor m trees others kind root reduced r s tree old mid new ins y z trees
     ∙ sym (ap (trees_make m) trees_are))
     (wrote-then old mid new (rows_make r s (λ _. trees_make m others)) (columns_make r s (tree_make m kind tree reduced)) ins y z p q)
 
-abbrev made_with : List Instruction → List ℕ → ℕ → Made
+abbrev made_with : List KernelOp → List ℕ → ℕ → Made
 made_with code outs next = record { code = code; outs = outs; next = next }
 
 -- a whole kernel
@@ -114,7 +114,7 @@ pub kernel_written : (make : Maker) (n : ℕ) (old new : Writer) (ins outs : Lis
     k.code.items ≡ new.code.items → k.outputs.items ≡ outs → k.regs ≡ next_of new →
     made_of k ≡ make (list_below n (λ k. k)) n
 kernel_written make n old new ins outs k none inputs ins_are p code_is outs_are regs_are =
-    let first : next_of old ≡ n = ap₂ (λ n xs. n + length {A = Instruction} xs) inputs none ∙ add-zero n in
+    let first : next_of old ≡ n = ap₂ (λ n xs. n + length {A = KernelOp} xs) inputs none ∙ add-zero n in
     let made = make ins (next_of old) in
     ap₂ (λ xs ys. made_with xs ys k.regs) (code_is ∙ p.code.code_is ∙ ap (λ xs. xs ++ made.code) none) (outs_are ∙ p.outs_are)
     ∙ ap (made_with made.code made.outs) (regs_are ∙ p.code.next_is)

@@ -2,21 +2,21 @@
 use Rattle.std.proofs.Common.{◌≡◌, ℕ, ◌+◌, ◌<◌, arith, refl, ap, ap₂, ◌∙◌, List, [], ◌∷◌, ◌++◌, length, map, subst}
 use Rattle.std.proofs.lemmas.List.{map-append}
 use Rattle.icode.specs.declared.action.Action.{Action}
-use Rattle.icode.specs.CodeLaws.Lanes.{Registers, lane_effect, weighted_operations}
-use Rattle.icode.proofs.CodeLaws.Placing.{length-mapped}
+use Rattle.icode.specs.Sequences.Lanes.{Registers, lane_effect, weighted_operations}
+use Rattle.icode.proofs.Sequences.Placing.{length-mapped}
 use Rattle.operators.specs.Operator.{Operator, gather}
 use Rattle.operators.proofs.Lists.{length-list_below}
-use Rattle.kernel_gen.specs.declared.straight.Instruction.{Instruction}
-use Rattle.kernel_gen.specs.Instructions.{action_by, code_effect, code_cost, AreWithin}
+use Rattle.kernel_gen.specs.declared.straight.KernelOp.{KernelOp}
+use Rattle.kernel_gen.specs.KernelOps.{action_by, code_effect, code_cost, AreWithin}
 use Rattle.kernel_gen.specs.Making.{Made, Maker, none_make, pick_make, then_make, beside_make}
 use Rattle.kernel_gen.specs.Ordered.{AreOrdered}
 use Rattle.kernel_gen.proofs.Below.{AllBelow, AllBelow-more, AllBelow-append, map-agree, map-joined, length-joined}
 use Rattle.kernel_gen.proofs.Below.{ReadsBelow, map-gather, gather-below}
-use Rattle.kernel_gen.proofs.Instructions.{AreWithin-more, AreWithin-append}
+use Rattle.kernel_gen.proofs.KernelOps.{AreWithin-more, AreWithin-append}
 
 -- ---- code after code
 
-pub code_effect-append : (m : ℕ) (xs ys : List Instruction) (g : Registers) →
+pub code_effect-append : (m : ℕ) (xs ys : List KernelOp) (g : Registers) →
     code_effect m (xs ++ ys) g ≡ code_effect m ys (code_effect m xs g)
 code_effect-append m [] ys g = refl
 code_effect-append m (i ∷ xs) ys g = code_effect-append m xs ys (lane_effect m 0 (action_by 1 i) g)
@@ -26,17 +26,17 @@ pub weighted-append : (weight : ℕ) (xs ys : List Action) → weighted_operatio
 weighted-append weight [] ys = omega arith
 weighted-append weight (action ∷ xs) ys = omega (arith, weighted-append weight xs ys)
 
-pub code_cost-append : (weight : ℕ) (xs ys : List Instruction) →
+pub code_cost-append : (weight : ℕ) (xs ys : List KernelOp) →
     code_cost weight (xs ++ ys) ≡ code_cost weight xs + code_cost weight ys
 code_cost-append weight xs ys = ap (weighted_operations weight) (map-append (action_by 1) xs ys) ∙ weighted-append weight _ _
 
-pub ordered-append : (next other : ℕ) (xs ys : List Instruction) → other ≡ next + length xs → AreOrdered next xs →
+pub ordered-append : (next other : ℕ) (xs ys : List KernelOp) → other ≡ next + length xs → AreOrdered next xs →
     AreOrdered other ys → AreOrdered next (xs ++ ys)
 ordered-append next other [] ys at first rest = subst (λ n. AreOrdered n ys) (omega (arith, at)) rest
 ordered-append next other (i ∷ xs) ys at first rest =
     (first.0, ordered-append (next + 1) other xs ys (omega (arith, at)) first.1 rest)
 
-pub length-code : (xs ys : List Instruction) → length (xs ++ ys) ≡ length xs + length ys
+pub length-code : (xs ys : List KernelOp) → length (xs ++ ys) ≡ length xs + length ys
 length-code [] ys = omega arith
 length-code (i ∷ xs) ys = omega (arith, length-code xs ys)
 

@@ -4,18 +4,18 @@ use Rattle.std.proofs.Common.{List, [], ◌∷◌, length, map, mod-lt, mul_comm
 use Rattle.std.specs.Prelude.{◌==◌}
 use Rattle.std.proofs.Math.Nat.{one-mul, mod-eq_of_lt, mod-mod}
 use Rattle.std.proofs.lemmas.Bool.{eqb-true}
-use Rattle.icode.specs.CodeLaws.Lanes.{Registers, lane_effect}
-use Rattle.icode.proofs.CodeLaws.ByLane.{this_register, other_register}
+use Rattle.icode.specs.Sequences.Lanes.{Registers, lane_effect}
+use Rattle.icode.proofs.Sequences.ByLane.{this_register, other_register}
 use Rattle.operators.specs.Operator.{Operator}
 use Rattle.ring_mod.proofs.Congruence.{same-add}
 use Rattle.ring_mod.proofs.LastResidue.{add_last_times}
-use Rattle.kernel_gen.specs.declared.straight.Instruction.TheVariants.{Add, Sub, Mul}
-use Rattle.kernel_gen.specs.Instructions.{action_by, code_effect, code_cost, AreWithin}
+use Rattle.kernel_gen.specs.declared.straight.KernelOp.TheVariants.{Add, Sub, Mul}
+use Rattle.kernel_gen.specs.KernelOps.{action_by, code_effect, code_cost, AreWithin}
 use Rattle.kernel_gen.specs.Making.{Made, Term, term_make, sum_make}
 use Rattle.kernel_gen.specs.Ordered.{AreOrdered}
 use Rattle.tree_model.specs.KernelCosts.{product_cost}
 use Rattle.kernel_gen.proofs.Below.{AllBelow, AllBelow-more, map-agree}
-use Rattle.kernel_gen.proofs.Instructions.{AreWithin-more, AreWithin-append}
+use Rattle.kernel_gen.proofs.KernelOps.{AreWithin-more, AreWithin-append}
 use Rattle.kernel_gen.proofs.Pieces.{DoesAt, code_effect-append, code_cost-append, length-code, ordered-append}
 
 -- the entries from place l on, times the numbers

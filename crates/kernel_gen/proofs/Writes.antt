@@ -1,7 +1,7 @@
 -- Code that is written piece by piece.
 use Rattle.std.proofs.Common.{◌≡◌, ℕ, ◌+◌, ◌++◌, List, length, refl, sym, ap, ap₂, subst, ◌∙◌, add-one, append-nil}
 use Rattle.std.proofs.Common.{append_assoc}
-use Rattle.kernel_gen.specs.declared.straight.Instruction.{Instruction}
+use Rattle.kernel_gen.specs.declared.straight.KernelOp.{KernelOp}
 use Rattle.kernel_gen.specs.declared.writer.Writer.{Writer}
 use Rattle.operators.specs.Operator.{Operator, block}
 use Rattle.kernel_gen.specs.Making.{Made, Maker, pick_make, then_make, rows_make, diagonal_make}
@@ -15,7 +15,7 @@ pub record IsPartOf (old new : Writer) (whole left : Made) : Type 0 where
   pub inputs : new.inputs ≡ old.inputs
 
 -- a piece, and another after it
-pub Appends-then : (old mid new : Writer) (first second : List Instruction) (next last : ℕ) →
+pub Appends-then : (old mid new : Writer) (first second : List KernelOp) (next last : ℕ) →
     Appends old mid first next → Appends mid new second last → Appends old new (first ++ second) last
 Appends-then old mid new first second next last p q =
     record {

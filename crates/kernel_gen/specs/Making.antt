@@ -1,12 +1,12 @@
 -- Straight-line code that is put together from pieces.
 use Rattle.std.specs.Prelude.{ℕ, zero, suc, ◌+◌, ◌-◌, List, [], ◌∷◌, ◌++◌, ◌==◌, if◌then◌else◌}
-use Rattle.kernel_gen.specs.declared.straight.Instruction.{Instruction}
-use Rattle.kernel_gen.specs.declared.straight.Instruction.TheVariants.{Add, Sub, Neg, Mul}
+use Rattle.kernel_gen.specs.declared.straight.KernelOp.{KernelOp}
+use Rattle.kernel_gen.specs.declared.straight.KernelOp.TheVariants.{Add, Sub, Neg, Mul}
 use Rattle.operators.specs.Operator.{Operator, block}
 
 -- code, the registers of its outputs, and the first register that is still free
 pub record Made : Type 0 where
-  pub code : List Instruction
+  pub code : List KernelOp
   pub outs : List ℕ
   pub next : ℕ
 
@@ -41,12 +41,12 @@ abbrev pub rows_make : ℕ → ℕ → (ℕ → Maker) → Maker
 rows_make zero s piece = none_make
 rows_make (suc r) s piece = beside_make (rows_make r s piece) (then_make (pick_make (block s r)) (piece r))
 
-abbrev pub after_code : List Instruction → Made → Made
+abbrev pub after_code : List KernelOp → Made → Made
 after_code code made = record { code = code ++ made.code; outs = made.outs; next = made.next }
 
 -- code that adds to a number, the register of the sum, and the first register that is still free
 pub record Term : Type 0 where
-  pub code : List Instruction
+  pub code : List KernelOp
   pub acc : ℕ
   pub next : ℕ
 

@@ -2,7 +2,7 @@
 #![tactic(auto)]
 
 mod dimensions;
-mod generate;
+mod kernels;
 mod matrix;
 mod nodes;
 mod places;
@@ -10,5 +10,5 @@ mod straight;
 mod transform;
 mod writer;
 
-pub use generate::{dft_kernel, kernel};
-pub use straight::{Instruction, Kernel};
+pub use kernels::{dft_kernel, kernel};
+pub use straight::{KernelOp, Kernel};

@@ -3,7 +3,7 @@ ghost use Rattle.std.specs.Prelude.{◌≡◌, ℕ, ◌+◌, ◌^◌, ◌<◌, �
 ghost use Rattle.kernel_gen.specs.Making.{term_make, factor_make};
 ghost use Rattle.kernel_gen.specs.Writing.{next_of, Appends};
 
-use crate::straight::Instruction;
+use crate::straight::KernelOp;
 use memory::NoMemory;
 use ring_mod::Modulus;
 use std::alloc::Global;
@@ -12,7 +12,7 @@ use std::alloc::Global;
 #[derive(Drop)]
 pub(crate) struct Writer {
     pub(crate) inputs: u64,
-    pub(crate) code: Vec<Instruction>,
+    pub(crate) code: Vec<KernelOp>,
 }
 
 impl Writer {
@@ -40,26 +40,26 @@ impl Writer {
     {
         let next = self.next();
         if factor == 1 {
-            self.code.push(Instruction::Add {
+            self.code.push(KernelOp::Add {
                 register: next,
                 left: acc,
                 right: input,
             })?;
             Ok(next)
         } else if factor == m.get() - 1 {
-            self.code.push(Instruction::Sub {
+            self.code.push(KernelOp::Sub {
                 register: next,
                 left: acc,
                 right: input,
             })?;
             Ok(next)
         } else {
-            self.code.push(Instruction::Mul {
+            self.code.push(KernelOp::Mul {
                 register: next,
                 source: input,
                 factor,
             })?;
-            self.code.push(Instruction::Add {
+            self.code.push(KernelOp::Add {
                 register: next + 1,
                 left: acc,
                 right: next,
@@ -86,12 +86,12 @@ impl Writer {
             return Ok(input);
         }
         if factor == m.get() - 1 {
-            self.code.push(Instruction::Neg {
+            self.code.push(KernelOp::Neg {
                 register: next,
                 source: input,
             })?;
         } else {
-            self.code.push(Instruction::Mul {
+            self.code.push(KernelOp::Mul {
                 register: next,
                 source: input,
                 factor,

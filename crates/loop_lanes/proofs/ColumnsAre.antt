@@ -15,8 +15,8 @@ use Rattle.std.proofs.lemmas.List.{length-take-le}
 use Rattle.icode.specs.Limits.{is_small}
 use Rattle.icode.specs.Machine.{Local, effects}
 use Rattle.icode.specs.Plain.{PlainOp, PlainProgram}
-use Rattle.icode.specs.CodeLaws.Lanes.{lane_of}
-use Rattle.icode.proofs.CodeLaws.Stores.{length-registers}
+use Rattle.icode.specs.Sequences.Lanes.{lane_of}
+use Rattle.icode.proofs.Sequences.Stores.{length-registers}
 use Rattle.nests.specs.Places.{are_linear, stride}
 use Rattle.nests.specs.Rounds.{Stored, are_fresh, straight}
 use Rattle.nests.proofs.Swaps.{loops_same}

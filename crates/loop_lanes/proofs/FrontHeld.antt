@@ -5,7 +5,7 @@ use Rattle.icode.specs.Actions.{actions_of, array_start, lane_factors, step_of}
 use Rattle.icode.specs.Machine.{Local, effects, effect, memory_after, value_put, whole_lines}
 use Rattle.icode.specs.Plain.{PlainOp, PlainProgram, PlainExpr, Load, Store, Zero, Add, Sub, Neg, MulConst, MulTable}
 use Rattle.icode.specs.Plain.{Tile}
-use Rattle.icode.specs.CodeLaws.Lanes.{lane_of, Registers, with_register, lane_effect, IsArithmetic}
+use Rattle.icode.specs.Sequences.Lanes.{lane_of, Registers, with_register, lane_effect, IsArithmetic}
 use Rattle.nests.specs.Rounds.{Stored, are_fresh, same_array, is_fresh, put_after, straight}
 use Rattle.loop_lanes.specs.Columns.{renumbered_op}
 use Rattle.loop_lanes.specs.Layers.{on_lanes, steps_at, values_put}
@@ -20,8 +20,8 @@ use Rattle.icode.specs.declared.action.Action.{Action}
 use Rattle.icode.specs.Expression.{sum_numbers}
 use Rattle.icode.proofs.Bools.{both_true}
 use Rattle.icode.proofs.Lines.{Contains-head}
-use Rattle.icode.proofs.CodeLaws.ByLane.{this_register, other_register, effect_by_lane, length-registers_after}
-use Rattle.icode.proofs.CodeLaws.Stores.{load_by_lane}
+use Rattle.icode.proofs.Sequences.ByLane.{this_register, other_register, effect_by_lane, length-registers_after}
+use Rattle.icode.proofs.Sequences.Stores.{load_by_lane}
 use Rattle.nests.specs.Places.{is_linear}
 use Rattle.nests.proofs.Acts.{loaded_words}
 use Rattle.nests.proofs.Linear.{wrong}

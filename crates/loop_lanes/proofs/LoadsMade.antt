@@ -14,7 +14,7 @@ use Rattle.nests.specs.Rounds.{Stored}
 use Rattle.loop_lanes.specs.Columns.{Columns, Factors}
 use Rattle.loop_lanes.specs.Loads.{Loaded, are_whole, behind, are_behind}
 use Rattle.loop_lanes.specs.Rows.{stores, is_by_lane}
-use Rattle.loop_lanes.specs.View.{has_entries, has_words}
+use Rattle.loop_lanes.specs.Views.{has_entries, has_words}
 use Rattle.loop_lanes.proofs.ColumnsAre.{columns_told}
 
 -- ---- lists

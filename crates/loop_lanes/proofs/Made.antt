@@ -12,7 +12,7 @@ use Rattle.icode.proofs.Bools.{both_true}
 use Rattle.nests.specs.Places.{is_linear, stride}
 use Rattle.nests.specs.Rounds.{Stored, same_array}
 use Rattle.loop_lanes.specs.Rows.{place_stride, is_by_lane}
-use Rattle.loop_lanes.specs.View.{stride_in, plain_ops}
+use Rattle.loop_lanes.specs.Views.{stride_in, plain_ops}
 use Rattle.loop_lanes.specs.Lanes.{laned_nest, laned_body}
 use Rattle.loop_lanes.proofs.Arrays.{step_before}
 use Rattle.nests.proofs.Linear.{parts_equal}

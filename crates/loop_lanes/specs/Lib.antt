@@ -4,4 +4,4 @@ pub mod Laws
 pub mod Layers
 pub mod Loads
 pub mod Rows
-pub mod View
+pub mod Views

@@ -5,12 +5,12 @@
 ghost use Rattle.std.specs.Prelude.{◌≡◌, ◌≤◌, ◌==◌, not, length, IfOk, option_map};
 ghost use Rattle.std.specs.List.{list_all};
 ghost use Rattle.icode.specs.Plain.{plain_op, plain_body};
-ghost use Rattle.nests.specs.View.{stored_into};
+ghost use Rattle.nests.specs.Views.{stored_into};
 ghost use Rattle.loop_lanes.specs.Rows.{is_store, stores, others, stored_constants, is_by_lane, are_from};
 ghost use Rattle.nests.specs.Rounds.{ops_in};
 ghost use Rattle.loop_lanes.specs.Columns.{are_distinct, are_products, factored_registers, first_factors, are_tiles};
 ghost use Rattle.loop_lanes.specs.Columns.{are_columns};
-ghost use Rattle.loop_lanes.specs.View.{plain_ops, plain_factors, columns_of, is_product};
+ghost use Rattle.loop_lanes.specs.Views.{plain_ops, plain_factors, columns_of, is_product};
 
 use crate::rows::is_by_lane;
 use icode::program::{Array, Op, Part, Stmt};

@@ -4,7 +4,7 @@ ghost use Rattle.std.specs.Prelude.{◌≡◌, ◌≤◌, ◌<◌, ◌^◌, IfOk
 ghost use Rattle.icode.specs.Plain.{plain_stmt, plain_body, plain_phases};
 ghost use Rattle.icode.specs.Program.{plain_program};
 ghost use Rattle.loop_lanes.specs.Lanes.{IsLanes, laned};
-ghost use Rattle.loop_lanes.specs.View.{nest_if, body_if, phases_if, body_made, phases_made};
+ghost use Rattle.loop_lanes.specs.Views.{nest_if, body_if, phases_if, body_made, phases_made};
 ghost use Rattle.loop_lanes.specs.Laws.{LanedLeavesTheSame};
 
 use crate::loops::laned_loop;

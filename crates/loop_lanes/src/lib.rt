@@ -1,7 +1,7 @@
 //! Lanes from loops: rounds of the innermost loop, one after the other, become lanes of one round.
 #![tactic(auto)]
 
-mod choice;
+mod ways;
 mod columns;
 mod lanes;
 mod loads;

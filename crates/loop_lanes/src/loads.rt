@@ -9,8 +9,8 @@ ghost use Rattle.loop_lanes.specs.Loads.{first_load, is_loaded, row_length, are_
 ghost use Rattle.loop_lanes.specs.Loads.{are_behind};
 ghost use Rattle.nests.specs.Rounds.{ops_in};
 ghost use Rattle.loop_lanes.specs.Rows.{stores, stored_constants};
-ghost use Rattle.loop_lanes.specs.View.{plain_ops, plain_factors, columns_of, has_entries, stored_reference, ops_made};
-ghost use Rattle.loop_lanes.specs.View.{has_room, load_of, load_tile_of, loads_of, in_loaded_if};
+ghost use Rattle.loop_lanes.specs.Views.{plain_ops, plain_factors, columns_of, has_entries, stored_reference, ops_made};
+ghost use Rattle.loop_lanes.specs.Views.{has_room, load_of, load_tile_of, loads_of, in_loaded_if};
 
 use crate::columns::{ArrayReference, Columns, Group, are_columns, are_ops_by_lane};
 use crate::rows::are_clear;

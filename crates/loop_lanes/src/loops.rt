@@ -4,9 +4,9 @@ ghost use Rattle.std.specs.Prelude.{◌≡◌, ◌<◌, ◌≤◌, ◌^◌, IfOk
 ghost use Rattle.icode.specs.Plain.{Loop, plain_stmt, plain_body};
 ghost use Rattle.nests.specs.Rounds.{first_store, straight};
 ghost use Rattle.loop_lanes.specs.Lanes.{last_count, narrowed};
-ghost use Rattle.loop_lanes.specs.View.{plain_ops, stored_reference, body_made, round_if, nest_if};
+ghost use Rattle.loop_lanes.specs.Views.{plain_ops, stored_reference, body_made, round_if, nest_if};
 
-use crate::choice::laned_ops;
+use crate::ways::laned_ops;
 use crate::columns::{ArrayReference, Group, count_stores};
 use icode::program::{Op, Stmt};
 use memory::NoMemory;

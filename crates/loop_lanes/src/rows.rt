@@ -4,11 +4,11 @@ ghost use Rattle.std.specs.Prelude.{◌≡◌, ◌+◌, ◌*◌, ◌^◌, ◌<�
 ghost use Rattle.std.specs.List.{list_all};
 ghost use Rattle.icode.specs.Plain.{plain_op, plain_body};
 ghost use Rattle.nests.specs.Places.{stride};
-ghost use Rattle.nests.specs.View.{plain_parts, stored_into};
+ghost use Rattle.nests.specs.Views.{plain_parts, stored_into};
 ghost use Rattle.nests.specs.Rounds.{ops_in};
 ghost use Rattle.loop_lanes.specs.Rows.{stored_constants, stored_registers, is_by_lane, is_clear, are_clear, are_from};
 ghost use Rattle.loop_lanes.specs.Rows.{are_rows, widened_parts, in_row};
-ghost use Rattle.loop_lanes.specs.View.{stride_in};
+ghost use Rattle.loop_lanes.specs.Views.{stride_in};
 
 use icode::program::{Array, Op, Part, Stmt};
 use memory::NoMemory;

@@ -5,11 +5,11 @@ ghost use Rattle.std.specs.Prelude.{◌≡◌, ◌+◌, ◌*◌, ◌^◌, ◌<�
 ghost use Rattle.std.specs.List.{list_all};
 ghost use Rattle.icode.specs.Plain.{Sum, plain_expr, plain_op};
 ghost use Rattle.nests.specs.Places.{stride};
-ghost use Rattle.nests.specs.View.{plain_parts, stored_into};
+ghost use Rattle.nests.specs.Views.{plain_parts, stored_into};
 ghost use Rattle.loop_lanes.specs.Columns.{renumbered, renumbered_op};
 ghost use Rattle.loop_lanes.specs.Rows.{is_by_lane, widened_parts};
-ghost use Rattle.loop_lanes.specs.View.{plain_ops, laned_front, has_room, product_of, row_of, tile_of, tiles_of};
-ghost use Rattle.loop_lanes.specs.View.{can_tile, laned_columns};
+ghost use Rattle.loop_lanes.specs.Views.{plain_ops, laned_front, has_room, product_of, row_of, tile_of, tiles_of};
+ghost use Rattle.loop_lanes.specs.Views.{can_tile, laned_columns};
 
 use crate::columns::{ArrayReference, Columns, Factors, Group};
 use crate::rows::{put_in_row, widen_parts};

@@ -3,7 +3,7 @@ use Rattle.std.proofs.Common.{◌≡◌, ℕ, sym, ap, ◌∙◌, ap₂, true, f
 use Rattle.std.specs.Prelude.{Vec}
 use Rattle.std.proofs.lemmas.Bool.{cond-false, cond-true}
 use Rattle.index_fn.specs.Mapping.{Mapping}
-use Rattle.operators.specs.TensorPaths.Path.{Path}
+use Rattle.operators.specs.Paths.Tensors.{Path}
 use Rattle.sigma_spl.specs.Merge.{Merging, can_multiply, copying, factor_places, most, multiplied, settled, with_copy}
 use Rattle.sigma_spl.specs.Merge.{with_diagonal}
 use Rattle.sigma_spl.specs.Nest.{PlainFactors, PlainNest, spread}

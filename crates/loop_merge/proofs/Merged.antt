@@ -9,12 +9,12 @@ use Rattle.sigma_spl.specs.Nest.{PlainNest}
 use Rattle.sigma_spl.specs.Term.{PlainTerm, same, gath, scat, diag, nest, move, product, beside}
 use Rattle.sigma_spl.proofs.Limited.{IsRound, few-round, round-inner, sides-within}
 use Rattle.sigma_spl.proofs.Walk.{chosen}
-use Rattle.operators.specs.TensorPaths.Path.{Path, size_under}
+use Rattle.operators.specs.Paths.Tensors.{Path, size_under}
 use Rattle.loop_merge.specs.Known.{IsGood, AreKnownPasses, HasRoom, IsKnown}
 use Rattle.loop_nests.specs.Ready.{AreReadyPasses}
-use Rattle.loop_nests.specs.PassPlaces.Known.{AreSteps}
+use Rattle.loop_nests.specs.Places.Known.{AreSteps}
 use Rattle.sigma_spl.specs.Words.{AreWords}
-use Rattle.loop_nests.proofs.PassPlaces.Passes.{known-scattered}
+use Rattle.loop_nests.proofs.Places.Passes.{known-scattered}
 use Rattle.loop_merge.proofs.Readies.{low, steps-end}
 use Rattle.loop_nests.proofs.Sided.{ready-sides}
 use Rattle.loop_merge.proofs.States.{known-nest, known-move, known-append, known-settled, known-pass, known-scatter}

@@ -7,7 +7,7 @@ use Rattle.sigma_spl.specs.Term.{PlainTerm, product, beside}
 use Rattle.sigma_spl.specs.Views.{plain_term}
 use Rattle.sigma_spl.specs.Words.{AreWords}
 use Rattle.sigma_spl.specs.declared.term.Term.{Term}
-use Rattle.operators.specs.TensorPaths.Path.{Path, size_under}
+use Rattle.operators.specs.Paths.Tensors.{Path, size_under}
 use Rattle.loop_nests.specs.Parts.{IsPart}
 use Rattle.loop_merge.specs.Alone.{merged_alone}
 use Rattle.loop_merge.specs.Known.{IsGood, AreKnownPasses, HasRoom, IsKnown}

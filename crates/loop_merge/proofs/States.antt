@@ -18,14 +18,14 @@ use Rattle.sigma_spl.proofs.Keeps.{inner_positive}
 use Rattle.sigma_spl.proofs.Limited.{IsRound, few-round, round-inner, new-within, moved-within, spread-within}
 use Rattle.sigma_spl.proofs.Walk.{chosen, and-right}
 use Rattle.sigma_spl.proofs.Within.{within-multiplied}
-use Rattle.loop_nests.specs.SumLimits.Leading.{CanCarry}
-use Rattle.operators.specs.TensorPaths.Path.{Path, size_under}
+use Rattle.loop_nests.specs.Limits.Leading.{CanCarry}
+use Rattle.operators.specs.Paths.Tensors.{Path, size_under}
 use Rattle.loop_merge.specs.Known.{IsGood, AreKnownPasses, HasRoom}
 use Rattle.loop_nests.specs.NewNests.{moved_nest, natural_nest}
 use Rattle.loop_nests.specs.Ready.{AreReady, IsReadyPass}
-use Rattle.loop_nests.specs.PassPlaces.Known.{IsKnownPass, IsStep, AreSteps}
-use Rattle.loop_nests.proofs.PassPlaces.Carries.{carry-places}
-use Rattle.loop_nests.proofs.PassPlaces.Passes.{known-gathered, known-scattered}
+use Rattle.loop_nests.specs.Places.Known.{IsKnownPass, IsStep, AreSteps}
+use Rattle.loop_nests.proofs.Places.Carries.{carry-places}
+use Rattle.loop_nests.proofs.Places.Passes.{known-gathered, known-scattered}
 use Rattle.loop_nests.proofs.Readies.{ready-new, ready-in, ready-constants}
 use Rattle.loop_merge.proofs.Readies.{low, known-copying, known-by}
 

@@ -9,8 +9,8 @@ use Rattle.sigma_spl.specs.Merge.{Merging, Room, Taking, back_of, can_gather, ca
 use Rattle.sigma_spl.specs.Merge.{from_end, gathered, scattered, settled, with_scatter}
 use Rattle.sigma_spl.specs.Nest.{PlainNest}
 use Rattle.sigma_spl.specs.declared.nest.Nest.{Nest}
-use Rattle.loop_nests.specs.PassPlaces.Known.{AreSteps}
-use Rattle.loop_nests.specs.PassPlaces.Views.{mappings_of, waiting_of}
+use Rattle.loop_nests.specs.Places.Known.{AreSteps}
+use Rattle.loop_nests.specs.Places.Views.{mappings_of, waiting_of}
 use Rattle.loop_nests.specs.Views.{from_last, plain_pass, plain_passes}
 use Rattle.index_fn.specs.Mapping.{Mapping}
 use Rattle.loop_nests.proofs.Standing.{last_first, last_waits, more_passes}

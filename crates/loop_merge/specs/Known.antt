@@ -4,7 +4,7 @@ use Rattle.sigma_spl.specs.Good.{IsGoodTerm}
 use Rattle.sigma_spl.specs.Merge.{Merging}
 use Rattle.sigma_spl.specs.Nest.{PlainNest}
 use Rattle.sigma_spl.specs.Term.{PlainTerm}
-use Rattle.loop_nests.specs.PassPlaces.Known.{AreSteps, IsKnownPass}
+use Rattle.loop_nests.specs.Places.Known.{AreSteps, IsKnownPass}
 
 -- ---- terms
 

@@ -3,7 +3,7 @@ use Rattle.std.specs.Prelude.{ℕ, Bool, ◌&&◌, List, ◌∷◌}
 use Rattle.index_fn.specs.Mapping.{Mapping}
 use Rattle.sigma_spl.specs.Merge.{Room, can_multiply, settled, suits, take_gathers}
 use Rattle.sigma_spl.specs.Nest.{PlainFactors, PlainNest}
-use Rattle.operators.specs.TensorPaths.Path.{Path}
+use Rattle.operators.specs.Paths.Tensors.{Path}
 
 -- a pass with what it takes of the gathers that wait, and copy passes for those that are left
 abbrev pub taken : Room → ℕ → List PlainNest → List Mapping → List (List PlainNest)

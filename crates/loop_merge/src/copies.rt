@@ -2,8 +2,8 @@
 ghost use Rattle.std.specs.Prelude.{◌≡◌, ◌∷◌, [], IfOk};
 ghost use Rattle.index_fn.specs.Index.{mapping_of};
 ghost use Rattle.sigma_spl.specs.Merge.{copies_before, copy_by, most, settled};
-ghost use Rattle.loop_nests.specs.PassPlaces.Known.{AreSteps, IsKnownPass, IsStep};
-ghost use Rattle.loop_nests.specs.PassPlaces.Views.{waiting_of};
+ghost use Rattle.loop_nests.specs.Places.Known.{AreSteps, IsKnownPass, IsStep};
+ghost use Rattle.loop_nests.specs.Places.Views.{waiting_of};
 ghost use Rattle.loop_merge.specs.Known.{HasRoom};
 ghost use Rattle.loop_merge.specs.Taken.{taken};
 ghost use Rattle.loop_nests.specs.Views.{from_last, plain_pass};

@@ -1,6 +1,6 @@
 // Passes, a diagonal of listed values and other passes, as the passes of one program.
 ghost use Rattle.std.specs.Prelude.{◌≡◌, IfOk};
-ghost use Rattle.loop_merge.specs.JoinedPasses.Joined.{joined};
+ghost use Rattle.loop_merge.specs.JoinedPasses.InOnePhase.{joined};
 ghost use Rattle.loop_merge.specs.JoinedPasses.Laws.{AreInTurn, CountBoth, IsReadyJoined};
 ghost use Rattle.loop_merge.specs.MultipliedPasses.Views.{plain_passes, plain_phases};
 ghost use Rattle.sigma_spl.specs.Shared.Owners.{all_passes};

@@ -4,7 +4,7 @@
 #![tactic(auto)]
 
 mod copies;
-mod joined_copies;
+mod coalescing;
 mod joined_passes;
 mod merging;
 mod multiplied_passes;
@@ -24,7 +24,7 @@ ghost use Rattle.loop_nests.specs.Views.{from_last};
 
 use crate::copies::one_pass;
 use crate::merging::merged_alone;
-pub use joined_copies::join_copies;
+pub use coalescing::coalesce_copies;
 pub use joined_passes::join;
 use loop_nests::copying;
 use memory::NoMemory;

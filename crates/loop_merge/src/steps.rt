@@ -5,9 +5,9 @@ ghost use Rattle.index_fn.specs.Index.{mapping_of};
 ghost use Rattle.sigma_spl.specs.Good.{IsFormed};
 ghost use Rattle.sigma_spl.specs.Merge.{back_of, can_scatter, ended, most, scattered, with_pass, with_scatter};
 ghost use Rattle.loop_merge.specs.Known.{AreKnownPasses, HasRoom, IsKnown};
-ghost use Rattle.loop_nests.specs.PassPlaces.Changes.{ForMade, ForRefused};
-ghost use Rattle.loop_nests.specs.PassPlaces.Known.{AreSteps, IsKnownPass, IsStep};
-ghost use Rattle.loop_nests.specs.PassPlaces.Views.{mappings_of, waiting_of};
+ghost use Rattle.loop_nests.specs.Places.Changes.{ForMade, ForRefused};
+ghost use Rattle.loop_nests.specs.Places.Known.{AreSteps, IsKnownPass, IsStep};
+ghost use Rattle.loop_nests.specs.Places.Views.{mappings_of, waiting_of};
 ghost use Rattle.loop_merge.specs.Views.{plain_merging};
 ghost use Rattle.loop_nests.specs.Views.{from_last, plain_pass};
 

@@ -22,8 +22,8 @@ use Rattle.sigma_spl.proofs.Within.{IsSmall, constant-small, small-true}
 use Rattle.sigma_spl.proofs.Limited.{turn-fits, counts-first}
 use Rattle.sigma_spl.proofs.Fitting.{le-times}
 use Rattle.sigma_spl.proofs.Natural.{size-one_loop}
-use Rattle.operators.specs.declared.tensor_paths.Tensor.TheVariants.{Blocks, Columns}
-use Rattle.operators.specs.TensorPaths.Path.{Path, count_of, size_under}
+use Rattle.operators.specs.declared.paths.Tensor.TheVariants.{Blocks, Columns}
+use Rattle.operators.specs.Paths.Tensors.{Path, count_of, size_under}
 use Rattle.loop_nests.specs.NewNests.{CanMove}
 use Rattle.loop_nests.specs.Placed.{AllCanPlace, CanPlace}
 use Rattle.loop_nests.proofs.Naming.{can-place}

@@ -1,5 +1,5 @@
-pub mod PassPlaces
-pub mod SumLimits
+pub mod Places
+pub mod Limits
 pub mod Naming
 pub mod Frames
 pub mod Shares

@@ -4,7 +4,7 @@ use Rattle.std.proofs.Common.{Option, Some, None}
 use Rattle.std.specs.Prelude.{All, map, slice_index, ◌&&◌}
 use Rattle.std.specs.List.{list_all}
 use Rattle.std.proofs.lemmas.List.Elements.{All-nil, All-cons}
-use Rattle.perm_algebra.specs.Affine.{Sum, constant, variable, remainder, quotient, top, joined}
+use Rattle.perm_algebra.specs.Affine.{Sum, constant, variable, remainder, quotient, top, added}
 use Rattle.perm_algebra.specs.Room.{HasCounts, IsReady}
 use Rattle.perm_algebra.specs.Views.{plain_sum}
 use Rattle.perm_algebra.specs.declared.Affine.{Affine}
@@ -15,7 +15,7 @@ use Rattle.sigma_spl.specs.Work.{work_size}
 use Rattle.sigma_spl.proofs.Small.{renumbered-small, behind-small}
 use Rattle.sigma_spl.proofs.Walk.{and-left, and-right}
 use Rattle.sigma_spl.proofs.Limited.{tested, counts-first}
-use Rattle.operators.specs.TensorPaths.Path.{Path, count_of, size_under}
+use Rattle.operators.specs.Paths.Tensors.{Path, count_of, size_under}
 use Rattle.loop_nests.specs.Ready.{AreReady, IsReadyMultiplier, IsReadyNest}
 use Rattle.loop_nests.specs.Lifted.{AreCounted, AreRaised, CanLift, CanRaise, IsCounted}
 use Rattle.loop_nests.proofs.Naming.{can-place, constant-le-top}
@@ -48,8 +48,8 @@ module _ (room part n before : ℕ) (path : Path) (z : PlainNest) (several : Are
       let tops = higher.top in
       record {
         counts = ready.counts;
-        joins = omega (arith, constant-le-top (renumbered k e) cs, tops, fits, low);
-        placed = can-place room cs path n 0 (joined (constant before) (renumbered k e)) several counted some high
+        adds = omega (arith, constant-le-top (renumbered k e) cs, tops, fits, low);
+        placed = can-place room cs path n 0 (added (constant before) (renumbered k e)) several counted some high
             (omega (arith, short, high)) behind;
       }
 
@@ -107,7 +107,7 @@ all_raised depth path n before items few = each items
     wider e h =
         record {
           counts = more_counts depth (2 ^ 64 - length path) e (omega (arith, few)) h.counts;
-          joins = h.joins;
+          adds = h.adds;
           placed = h.placed;
         }
 

@@ -10,8 +10,8 @@ use Rattle.sigma_spl.proofs.Small.{HasCounts, place-small, max-lt}
 use Rattle.sigma_spl.proofs.Within.{IsSmall}
 use Rattle.sigma_spl.proofs.Fitting.{le-times}
 use Rattle.sigma_spl.specs.Room.{HasRoom}
-use Rattle.operators.specs.declared.tensor_paths.Tensor.TheVariants.{Blocks, Columns}
-use Rattle.operators.specs.TensorPaths.Path.{Path, size_under}
+use Rattle.operators.specs.declared.paths.Tensor.TheVariants.{Blocks, Columns}
+use Rattle.operators.specs.Paths.Tensors.{Path, size_under}
 use Rattle.loop_nests.specs.Placed.{CanPlace}
 
 pub constant-le-top : (e : Sum) (cs : ℕ → ℕ) → constant_of e ≤ top e cs

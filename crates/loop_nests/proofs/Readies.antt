@@ -9,10 +9,10 @@ use Rattle.perm_algebra.specs.Room.{HasCounts}
 use Rattle.sigma_spl.specs.Merge.{place_sum, items_in, items_out, new_nest, one_loop, copying}
 use Rattle.sigma_spl.specs.Work.{PlainWork, kernel, rows, horner, tile, copy, work_size, HasWords}
 use Rattle.sigma_spl.proofs.Natural.{sound-place_sum}
-use Rattle.operators.specs.declared.tensor_paths.Tensor.TheVariants.{Blocks, Columns}
-use Rattle.operators.specs.TensorPaths.Path.{Path, count_of, size_under}
+use Rattle.operators.specs.declared.paths.Tensor.TheVariants.{Blocks, Columns}
+use Rattle.operators.specs.Paths.Tensors.{Path, count_of, size_under}
 use Rattle.loop_nests.specs.Ready.{AreReady, IsReadyPass}
-use Rattle.perm_algebra.proofs.Kept.{counts-scaled, counts-joined}
+use Rattle.perm_algebra.proofs.Kept.{counts-scaled, counts-added}
 
 -- ---- the variables of new nests
 
@@ -20,9 +20,9 @@ pub counts-place : (n : ℕ) (path : Path) (d v : ℕ) (e : Sum) → v + length 
     HasCounts n (place_sum path d v e)
 counts-place n [] d v e fits h = h
 counts-place n (Blocks c ∷ path) d v e fits h =
-    counts-joined n (scaled (size_under path d) (variable 1 v (constant 0))) (place_sum path d (v + 1) e) (omega (arith, fits), tt) (counts-place n path d (v + 1) e (omega (arith, fits)) h)
+    counts-added n (scaled (size_under path d) (variable 1 v (constant 0))) (place_sum path d (v + 1) e) (omega (arith, fits), tt) (counts-place n path d (v + 1) e (omega (arith, fits)) h)
 counts-place n (Columns c ∷ path) d v e fits h =
-    counts-joined n (scaled c (place_sum path d (v + 1) e)) (variable 1 v (constant 0)) (counts-scaled n c _ (counts-place n path d (v + 1) e (omega (arith, fits)) h)) (omega (arith, fits), tt)
+    counts-added n (scaled c (place_sum path d (v + 1) e)) (variable 1 v (constant 0)) (counts-scaled n c _ (counts-place n path d (v + 1) e (omega (arith, fits)) h)) (omega (arith, fits), tt)
 
 pub ready-places : (n : ℕ) (path : Path) (d : ℕ) (es : List Sum) → length path ≤ n → AreReady n es →
     AreReady n (map (place_sum path d 0) es)

@@ -1,14 +1,14 @@
 -- Passes side by side are of words where both sides are.
 use Rattle.std.proofs.Common.{◌≡◌, ℕ, ◌+◌, arith, subst, List, [], ◌∷◌, ◌++◌, length, length-append, Option, Some, None}
 use Rattle.std.specs.Prelude.{map}
-use Rattle.perm_algebra.specs.Affine.{Sum, constant, variable, remainder, quotient, joined}
+use Rattle.perm_algebra.specs.Affine.{Sum, constant, variable, remainder, quotient, added}
 use Rattle.perm_algebra.specs.Room.{HasCounts, IsReady}
-use Rattle.perm_algebra.proofs.Kept.{sound-joined, counts-joined}
+use Rattle.perm_algebra.proofs.Kept.{sound-added, counts-added}
 use Rattle.sigma_spl.specs.Merge.{place_sum, copying, renumbered, renumbered_places, lifted, side, sides}
 use Rattle.sigma_spl.specs.Nest.{PlainMultiplier, PlainNest}
 use Rattle.sigma_spl.proofs.Natural.{sound-place_sum}
 use Rattle.sigma_spl.proofs.Sides.{sound-renumbered}
-use Rattle.operators.specs.TensorPaths.Path.{Path, count_of}
+use Rattle.operators.specs.Paths.Tensors.{Path, count_of}
 use Rattle.loop_nests.specs.Ready.{AreReady, IsReadyMultiplier, IsReadyNest, IsReadyPass, AreReadyPasses}
 use Rattle.loop_nests.proofs.Readies.{counts-place, depth-is, ready-copying}
 
@@ -23,14 +23,14 @@ ready-later k n e h = record { counts = counts-renumbered k n e h.counts; sound 
 
 module _ (path : Path) (size before : ℕ) where
   abbrev up : Sum → Sum
-  up e = place_sum path size 0 (joined (constant before) (renumbered (length path) e))
+  up e = place_sum path size 0 (added (constant before) (renumbered (length path) e))
 
   ready-up : (n : ℕ) (e : Sum) → IsReady n e → IsReady (length path + n) (up e)
   ready-up n e h =
       let later = ready-later (length path) n e h in
       record {
-        counts = counts-place (length path + n) path size 0 _ (omega arith) (counts-joined (length path + n) (constant before) (renumbered (length path) e) tt later.counts);
-        sound = sound-place_sum path size 0 _ (sound-joined (constant before) (renumbered (length path) e) tt later.sound);
+        counts = counts-place (length path + n) path size 0 _ (omega arith) (counts-added (length path + n) (constant before) (renumbered (length path) e) tt later.counts);
+        sound = sound-place_sum path size 0 _ (sound-added (constant before) (renumbered (length path) e) tt later.sound);
       }
 
   ready-ups : (n : ℕ) (es : List Sum) → AreReady n es → AreReady (length path + n) (map up es)

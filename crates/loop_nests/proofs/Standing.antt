@@ -8,8 +8,8 @@ use Rattle.std.proofs.lemmas.Bool.Decides.{nat_tests}
 use Rattle.std.proofs.lemmas.List.{map-append, reverse-append, reverse-reverse}
 use Rattle.index_fn.specs.Index.{mapping_of}
 use Rattle.index_fn.specs.declared.Index.{Index}
-use Rattle.loop_nests.specs.PassPlaces.Views.{waiting_of}
-use Rattle.perm_algebra.specs.Affine.{Sum, constant, variable, remainder, quotient, joined}
+use Rattle.loop_nests.specs.Places.Views.{waiting_of}
+use Rattle.perm_algebra.specs.Affine.{Sum, constant, variable, remainder, quotient, added}
 use Rattle.perm_algebra.specs.Room.{constant_of}
 use Rattle.sigma_spl.specs.Limits.{AreSeveral, AreWithin}
 use Rattle.sigma_spl.specs.Merge.{is_limited, is_multiplier_within, is_within, items_in, lifted, limits_of, new_nest}
@@ -20,8 +20,8 @@ use Rattle.sigma_spl.specs.Work.{copy}
 use Rattle.sigma_spl.proofs.Walk.{and-left, and-right}
 use Rattle.sigma_spl.proofs.Within.{constant-small, limited}
 use Rattle.sigma_spl.proofs.Limited.{both-within}
-use Rattle.operators.specs.declared.tensor_paths.Tensor.TheVariants.{Blocks}
-use Rattle.operators.specs.TensorPaths.Path.{Path, size_under}
+use Rattle.operators.specs.declared.paths.Tensor.TheVariants.{Blocks}
+use Rattle.operators.specs.Paths.Tensors.{Path, size_under}
 use Rattle.loop_nests.specs.Ready.{AreReadyPasses, IsReadyNest, IsReadyPass}
 use Rattle.loop_nests.specs.Lifted.{AllFit, AllLift, AreLifted, AreRaised, CanStand, SumsFit, behind}
 use Rattle.loop_nests.specs.Parts.{IsPart}
@@ -143,10 +143,10 @@ as-it-is (variable f d rest) = ap₂ (λ a b. variable f a b) (let is : d + 0 �
 as-it-is (remainder f of m rest) = ap₂ (λ a b. remainder f a m b) (as-it-is of) (as-it-is rest)
 as-it-is (quotient f of m rest) = ap₂ (λ a b. quotient f a m b) (as-it-is of) (as-it-is rest)
 
-same-sums : (before : ℕ) (es : List Sum) → map (joined (constant before)) es
-    ≡ map (λ e. joined (constant before) (renumbered 0 e)) es
+same-sums : (before : ℕ) (es : List Sum) → map (added (constant before)) es
+    ≡ map (λ e. added (constant before) (renumbered 0 e)) es
 same-sums before [] = refl
-same-sums before (e ∷ es) = ap₂ (λ (x : Sum) xs. x ∷ xs) (ap (joined (constant before)) (sym (as-it-is e))) (same-sums before es)
+same-sums before (e ∷ es) = ap₂ (λ (x : Sum) xs. x ∷ xs) (ap (added (constant before)) (sym (as-it-is e))) (same-sums before es)
 
 same-numbers : (es : List Sum) → es ≡ map (renumbered 0) es
 same-numbers [] = refl
@@ -165,15 +165,15 @@ behind-lifted [] n before zs none = each zs
     each [] = refl
     each (z ∷ xs) =
         ap₂ (λ (y : PlainNest) ys. y ∷ ys)
-        (ap (λ es. record { counts = z.counts; work = z.work; gathers = es; multiplier = z.multiplier; scatters = map (joined (constant before)) z.scatters }) (same-sums before z.gathers)
-        ∙ ap (λ o. record { counts = z.counts; work = z.work; gathers = map (λ e. joined (constant before) (renumbered 0 e)) z.gathers; multiplier = o; scatters = map (joined (constant before)) z.scatters }) (same-factors z.multiplier)
-        ∙ ap (λ es. record { counts = z.counts; work = z.work; gathers = map (λ e. joined (constant before) (renumbered 0 e)) z.gathers; multiplier = renumbered_places 0 z.multiplier; scatters = es }) (same-sums before z.scatters))
+        (ap (λ es. record { counts = z.counts; work = z.work; gathers = es; multiplier = z.multiplier; scatters = map (added (constant before)) z.scatters }) (same-sums before z.gathers)
+        ∙ ap (λ o. record { counts = z.counts; work = z.work; gathers = map (λ e. added (constant before) (renumbered 0 e)) z.gathers; multiplier = o; scatters = map (added (constant before)) z.scatters }) (same-factors z.multiplier)
+        ∙ ap (λ es. record { counts = z.counts; work = z.work; gathers = map (λ e. added (constant before) (renumbered 0 e)) z.gathers; multiplier = renumbered_places 0 z.multiplier; scatters = es }) (same-sums before z.scatters))
         (each xs)
 
 sums-fit : (depth n before : ℕ) (es : List Sum) → AreRaised depth [] n before es → SumsFit before es
 sums-fit depth n before [] h = tt
 sums-fit depth n before (e ∷ es) h =
-    (subst (λ x. before + constant_of x < 2 ^ 64) (as-it-is e) h.0.joins, sums-fit depth n before es h.1)
+    (subst (λ x. before + constant_of x < 2 ^ 64) (as-it-is e) h.0.adds, sums-fit depth n before es h.1)
 
 pub all-fit : (path : Path) (n before : ℕ) (zs : List PlainNest) → length path ≡ 0 → AllLift path n before zs →
     AllFit before zs

@@ -1,5 +1,5 @@
-pub mod PassPlaces
-pub mod SumLimits
+pub mod Places
+pub mod Limits
 pub mod Views
 pub mod Ready
 pub mod Placed

@@ -2,20 +2,20 @@
 use Rattle.std.specs.Prelude.{ℕ, ◌+◌, ◌^◌, ◌<◌, ◌≤◌, List, [], ◌∷◌, map, length, Option, Some, None}
 use Rattle.sigma_spl.specs.Merge.{copying, place_sum, renumbered}
 use Rattle.sigma_spl.specs.Nest.{PlainMultiplier, PlainNest}
-use Rattle.perm_algebra.specs.Affine.{Sum, constant, joined}
-use Rattle.perm_algebra.specs.Room.{CanJoin, HasCounts, constant_of}
-use Rattle.operators.specs.TensorPaths.Path.{Path}
+use Rattle.perm_algebra.specs.Affine.{Sum, constant, added}
+use Rattle.perm_algebra.specs.Room.{CanAdd, HasCounts, constant_of}
+use Rattle.operators.specs.Paths.Tensors.{Path}
 use Rattle.loop_nests.specs.Placed.{CanPlace}
 
 -- a place of a part that begins a number of words later, in the whole
 abbrev pub raised : Path → ℕ → ℕ → Sum → Sum
-raised path n before e = place_sum path n 0 (joined (constant before) (renumbered (length path) e))
+raised path n before e = place_sum path n 0 (added (constant before) (renumbered (length path) e))
 
 -- it can be made, where `depth` variables have counts
 pub record CanRaise (depth : ℕ) (path : Path) (n before : ℕ) (e : Sum) : Type 0 where
   pub counts : HasCounts depth e
-  pub joins : CanJoin (constant before) (renumbered (length path) e)
-  pub placed : CanPlace path n 0 (joined (constant before) (renumbered (length path) e))
+  pub adds : CanAdd (constant before) (renumbered (length path) e)
+  pub placed : CanPlace path n 0 (added (constant before) (renumbered (length path) e))
 
 abbrev pub AreRaised : ℕ → Path → ℕ → ℕ → List Sum → Type 0
 AreRaised depth path n before [] = Unit {0}
@@ -49,9 +49,9 @@ behind before z =
     record {
       counts = z.counts;
       work = z.work;
-      gathers = map (joined (constant before)) z.gathers;
+      gathers = map (added (constant before)) z.gathers;
       multiplier = z.multiplier;
-      scatters = map (joined (constant before)) z.scatters;
+      scatters = map (added (constant before)) z.scatters;
     }
 
 -- each place is a word there

@@ -6,7 +6,7 @@ use Rattle.sigma_spl.specs.Merge.{items_in, items_out, new_nest, place_sum}
 use Rattle.sigma_spl.specs.Nest.{PlainNest}
 use Rattle.sigma_spl.specs.Work.{PlainWork, copy, work_size}
 use Rattle.perm_algebra.specs.Affine.{Sum, constant}
-use Rattle.operators.specs.TensorPaths.Path.{Path}
+use Rattle.operators.specs.Paths.Tensors.{Path}
 use Rattle.loop_nests.specs.Placed.{AllCanPlace}
 
 -- where the items of some work are loaded from, and where they are stored

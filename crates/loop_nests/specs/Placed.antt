@@ -1,11 +1,11 @@
 -- Where a place under tensors can be made with words of 64 bits.
 use Rattle.std.specs.Prelude.{ℕ, ◌+◌, ◌-◌, ◌^◌, ◌<◌, List, [], ◌∷◌}
 use Rattle.perm_algebra.specs.Affine.{Sum, constant, variable, scaled}
-use Rattle.perm_algebra.specs.Room.{CanScale, CanJoin, HasCounts}
+use Rattle.perm_algebra.specs.Room.{CanScale, CanAdd, HasCounts}
 use Rattle.sigma_spl.specs.Merge.{place_sum}
 use Rattle.sigma_spl.specs.Room.{HasRoom}
-use Rattle.operators.specs.declared.tensor_paths.Tensor.TheVariants.{Blocks, Columns}
-use Rattle.operators.specs.TensorPaths.Path.{Path, size_under}
+use Rattle.operators.specs.declared.paths.Tensor.TheVariants.{Blocks, Columns}
+use Rattle.operators.specs.Paths.Tensors.{Path, size_under}
 
 -- every number on the way to a place of the path fits, where its variables begin at d
 abbrev pub CanPlace : Path → ℕ → ℕ → Sum → Type 0
@@ -13,11 +13,11 @@ CanPlace [] n d e = Unit {0}
 CanPlace (Blocks c ∷ path) n d e =
     (d + 1 < 2 ^ 64) × HasRoom path n × CanPlace path n (d + 1) e
     × CanScale (size_under path n) (variable 1 d (constant 0))
-    × CanJoin (scaled (size_under path n) (variable 1 d (constant 0))) (place_sum path n (d + 1) e)
+    × CanAdd (scaled (size_under path n) (variable 1 d (constant 0))) (place_sum path n (d + 1) e)
 CanPlace (Columns c ∷ path) n d e =
     (d + 1 < 2 ^ 64) × HasRoom path n × CanPlace path n (d + 1) e
     × CanScale c (place_sum path n (d + 1) e)
-    × CanJoin (scaled c (place_sum path n (d + 1) e)) (variable 1 d (constant 0))
+    × CanAdd (scaled c (place_sum path n (d + 1) e)) (variable 1 d (constant 0))
 
 -- and of each item
 abbrev pub AllCanPlace : Path → ℕ → List Sum → Type 0

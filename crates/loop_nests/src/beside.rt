@@ -2,7 +2,7 @@
 ghost use Rattle.std.specs.Prelude.{◌≡◌, ◌+◌, ◌^◌, ◌<◌, ◌≤◌, IfOk, map};
 ghost use Rattle.sigma_spl.specs.Limits.{AreSeveral};
 ghost use Rattle.sigma_spl.specs.Merge.{lifted, side, sides};
-ghost use Rattle.operators.specs.TensorPaths.Path.{size_under};
+ghost use Rattle.operators.specs.Paths.Tensors.{size_under};
 ghost use Rattle.loop_nests.specs.Lifted.{AllLift, AreLifted, CanStand};
 ghost use Rattle.loop_nests.specs.Parts.{IsPart};
 ghost use Rattle.loop_nests.specs.Views.{from_last, plain_pass};

@@ -5,14 +5,14 @@
 mod beside;
 mod lifted;
 mod nests;
-mod pass_places;
+mod places;
 mod placed;
-mod sum_limits;
+mod limits;
 
 pub use beside::sides;
 pub use nests::{alone, copied_nest, copying, copying_words, moved_nest, natural_nest};
-pub use pass_places::{
+pub use places::{
     Change, Diagonal, factor_count, factor_places, gathered, multiplied, multiplied_in_order,
     scattered,
 };
-pub use sum_limits::{Limits, carry_within, is_within, simplify_within};
+pub use limits::{Limits, carry_within, is_within, simplify_within};

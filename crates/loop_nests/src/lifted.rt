@@ -3,9 +3,9 @@ ghost use Rattle.std.specs.Prelude.{◌≡◌, ◌+◌, ◌-◌, ◌^◌, ◌<�
 ghost use Rattle.std.specs.Option.{option_map};
 ghost use Rattle.sigma_spl.specs.Merge.{lifted, renumbered, renumbered_places};
 ghost use Rattle.sigma_spl.specs.Views.{plain_multiplier, plain_nest};
-ghost use Rattle.perm_algebra.specs.Affine.{constant, joined};
+ghost use Rattle.perm_algebra.specs.Affine.{constant, added};
 ghost use Rattle.perm_algebra.specs.Views.{plain_sum};
-ghost use Rattle.operators.specs.TensorPaths.Path.{count_of};
+ghost use Rattle.operators.specs.Paths.Tensors.{count_of};
 ghost use Rattle.loop_nests.specs.Lifted.{AllFit, AllLift, CanLift, CanRaise, IsCounted, SumsFit, behind, raised};
 ghost use Rattle.loop_nests.specs.Placed.{CanRenumber};
 
@@ -149,7 +149,7 @@ pub(crate) fn raise_nests(before: u64, nests: &mut [Nest])
 
 fn raise_sums(before: u64, sums: &mut [Affine])
     requires { SumsFit before (map plain_sum sums.old) }
-    ensures { map plain_sum sums.new ≡ map (joined (constant before)) (map plain_sum sums.old) }
+    ensures { map plain_sum sums.new ≡ map (added (constant before)) (map plain_sum sums.old) }
 {
     match sums.split_first_mut() {
         None => (),

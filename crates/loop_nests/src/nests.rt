@@ -11,7 +11,7 @@ ghost use Rattle.sigma_spl.specs.Views.{plain_multiplier, plain_nest, plain_work
 ghost use Rattle.sigma_spl.specs.Work.{HasWords, work_size};
 ghost use Rattle.perm_algebra.specs.Affine.{constant};
 ghost use Rattle.perm_algebra.specs.Views.{plain_sum};
-ghost use Rattle.operators.specs.TensorPaths.Path.{count_of, size_under};
+ghost use Rattle.operators.specs.Paths.Tensors.{count_of, size_under};
 ghost use Rattle.sigma_spl.specs.Words.{IsDefinedBelow};
 ghost use Rattle.loop_nests.specs.NewNests.{CanMove, copied_by_word, loads_under, moved_nest, natural_nest, stores_under};
 

@@ -4,7 +4,7 @@ use Rattle.std.proofs.Common.{◌≡◌, ◌≢◌, ◌⊎◌, ℕ, zero, suc, �
 use Rattle.std.proofs.Common.{◌+◌, ◌*◌, ◌≤◌, true, sym, ap₂, ◌∙◌, arith, inl, inr, leb-true, mul-le-mul_left, false}
 use Rattle.std.proofs.Common.{not, All, Contains, flat_map, true≢false}
 use Rattle.std.specs.Prelude.{slice_index_or, slice_index, nat_le}
-use Rattle.icode.specs.CodeLaws.Nests.{AreInRange}
+use Rattle.icode.specs.Sequences.Nests.{AreInRange}
 use Rattle.std.proofs.lemmas.Bool.{cases_order, not-true}
 use Rattle.icode.specs.Expression.{parts_numbers, sum_numbers}
 use Rattle.icode.specs.Plain.{PlainParts, NoParts, AndParts, Proc, Var, PlainOp, PlainBody, PlainProgram, Sum, Load}

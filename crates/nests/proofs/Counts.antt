@@ -8,7 +8,7 @@ use Rattle.std.specs.Prelude.{◌*◌, ◌&&◌, nat_le, Option, Some, None}
 use Rattle.nests.specs.Places.{stride, are_linear}
 use Rattle.nests.specs.Rounds.{Stored, are_nested, last_stride, are_placed, are_apart}
 use Rattle.nests.specs.Rounds.{are_independent, is_fresh, put_after, are_fresh}
-use Rattle.nests.specs.View.{are_nested_in, last_stride_in, are_apart_in, are_independent_in, one_loop}
+use Rattle.nests.specs.Views.{are_nested_in, last_stride_in, are_apart_in, are_independent_in, one_loop}
 use Rattle.icode.specs.declared.program.Op.{Op}
 use Rattle.icode.specs.declared.program.Stmt.{Stmt}
 use Rattle.icode.proofs.Steps.{drop_item}

@@ -23,7 +23,7 @@ use Rattle.icode.specs.declared.action.Action.{Action}
 use Rattle.std.proofs.lemmas.List.FromFn.{get_or-map-range_with_len, length-map-range_with_len}
 use Rattle.operators.specs.Sum.{list_below}
 use Rattle.operators.proofs.Lists.{length-list_below, at-list_below}
-use Rattle.icode.specs.CodeLaws.Nests.{AreInRange}
+use Rattle.icode.specs.Sequences.Nests.{AreInRange}
 use Rattle.nests.specs.Nests.{looped}
 
 pub one-source : (r next x : ℕ) → ((r == next) && nat_lt x next) ≡ true → (r ≡ next) × (x < next)

@@ -2,4 +2,4 @@ pub mod InPlace
 pub mod Nests
 pub mod Places
 pub mod Rounds
-pub mod View
+pub mod Views

@@ -4,7 +4,7 @@
 ghost use Rattle.std.specs.Prelude.{◌≡◌, ◌+◌, ◌<◌, true, ◌++◌, IfOk};
 ghost use Rattle.icode.specs.Plain.{plain_body, Loop, plain_stmt};
 ghost use Rattle.nests.specs.Nests.{round_in, is_nest, counts_in};
-ghost use Rattle.nests.specs.View.{plain_parts, loops_in, are_nested_in, last_stride_in};
+ghost use Rattle.nests.specs.Views.{plain_parts, loops_in, are_nested_in, last_stride_in};
 ghost use Rattle.nests.specs.Rounds.{straight};
 
 use crate::parts::stride;

@@ -5,7 +5,7 @@ ghost use Rattle.std.specs.Prelude.{◌≡◌, ◌+◌, ◌<◌};
 ghost use Rattle.icode.specs.Plain.{plain_op, plain_body};
 ghost use Rattle.icode.specs.Actions.{array_start};
 ghost use Rattle.nests.specs.Rounds.{same_array, first_store, is_placed, are_placed};
-ghost use Rattle.nests.specs.View.{stored_into, loops_in, are_apart_in, are_independent_in};
+ghost use Rattle.nests.specs.Views.{stored_into, loops_in, are_apart_in, are_independent_in};
 
 use crate::bodies::{are_nested, last_stride};
 use crate::parts::{are_linear, same_parts};

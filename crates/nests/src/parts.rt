@@ -4,7 +4,7 @@
 ghost use Rattle.std.specs.Prelude.{◌≡◌, ◌+◌, ◌<◌};
 ghost use Rattle.icode.specs.Plain.{plain_part};
 ghost use Rattle.nests.specs.Places.{are_linear, stride, same_part, same_parts};
-ghost use Rattle.nests.specs.View.{plain_parts};
+ghost use Rattle.nests.specs.Views.{plain_parts};
 
 use icode::program::Part;
 

@@ -3,4 +3,4 @@ pub mod Loop
 pub mod Operator
 pub mod Sizes
 pub mod Sum
-pub mod TensorPaths
+pub mod Paths

@@ -3,11 +3,11 @@
 
 mod laws;
 mod target;
-mod tensor_paths;
+mod paths;
 
 /// No list that a transform is of has more items.
 pub const MAX_SIZE: u64 = 1_048_576;
 
 pub use laws::{lane_identities, loop_identities, processor_identities};
 pub use target::Target;
-pub use tensor_paths::{Tensor, loop_is_under};
+pub use paths::{Tensor, loop_is_under};

@@ -12,19 +12,19 @@ use Rattle.par_machine.specs.Frame.{IsRunning}
 use Rattle.par_machine.specs.Held.{with_file}
 use Rattle.par_machine.specs.Position.{Position}
 use Rattle.par_machine.specs.Processors.{with_registers, registers_of, cursors_of, counts_of_all}
-use Rattle.par_machine.specs.View.{frame_of, stand_with, running_of, IsWhole}
+use Rattle.par_machine.specs.Views.{frame_of, stand_with, running_of, IsWhole}
 use Rattle.par_machine.proofs.Each.{at_map, map_set}
 use Rattle.par_machine.proofs.Starting.{processor_there}
 
 -- processor q is p, and becomes x
 pub record IsHolding (a : Inside) (q : ℕ) (p x : Context) (words : List ℕ) : Type 0 where
   pub whole : IsWhole a
-  pub proc : q < a.engine.shape.procs
+  pub proc : q < a.header.shape.procs
   pub processor : p ≡ get_or a.processors.items q p
   pub after : x ≡ with_registers words p
 
-pub file_size : (a : Inside) (q : ℕ) (p : Context) → IsWhole a → q < a.engine.shape.procs →
-    p ≡ get_or a.processors.items q p → length p.registers ≡ a.engine.shape.regs * a.engine.shape.lanes
+pub file_size : (a : Inside) (q : ℕ) (p : Context) → IsWhole a → q < a.header.shape.procs →
+    p ≡ get_or a.processors.items q p → length p.registers ≡ a.header.shape.regs * a.header.shape.lanes
 file_size a q p w lt e =
     ap length (at_map (λ (p : Context). p.registers) a.processors.items q p [] (processor_there a q w lt) e) ∙ w.running.file q lt
 
@@ -59,18 +59,18 @@ module _ (a : Inside) (q : ℕ) (p x : Context) (words : List ℕ) (h : IsHoldin
       (λ (ne : k ≡ q → ⊥). subst (P k) (sym (get_or-set_other (registers_of a.processors.items) q k words [] ne)) (others k))
       (cases_eq k q)
 
-  pub held_runs : length words ≡ a.engine.shape.regs * a.engine.shape.lanes →
-      ((k : ℕ) → slice_index words k < a.engine.shape.modulus) → IsRunning (frame_of a) (stand_with state all)
+  pub held_runs : length words ≡ a.header.shape.regs * a.header.shape.lanes →
+      ((k : ℕ) → slice_index words k < a.header.shape.modulus) → IsRunning (frame_of a) (stand_with state all)
   held_runs size below =
       let w = h.whole.running in
       record {
         memory = w.memory;
         memory_below = w.memory_below;
         files = ap length registers_are ∙ (length-set (registers_of a.processors.items) q words ∙ w.files);
-        file = subst (λ (rs : List (List ℕ)). (k : ℕ) → k < a.engine.shape.procs → length (slice_index_or rs k []) ≡ a.engine.shape.regs * a.engine.shape.lanes) (sym registers_are)
-            (at_file (λ k (ws : List ℕ). k < a.engine.shape.procs → length ws ≡ a.engine.shape.regs * a.engine.shape.lanes) (λ lt. size) w.file);
-        files_below = subst (λ (rs : List (List ℕ)). (k j : ℕ) → slice_index (slice_index_or rs k []) j < a.engine.shape.modulus) (sym registers_are)
-            (at_file (λ k (ws : List ℕ). (j : ℕ) → slice_index ws j < a.engine.shape.modulus) below w.files_below);
+        file = subst (λ (rs : List (List ℕ)). (k : ℕ) → k < a.header.shape.procs → length (slice_index_or rs k []) ≡ a.header.shape.regs * a.header.shape.lanes) (sym registers_are)
+            (at_file (λ k (ws : List ℕ). k < a.header.shape.procs → length ws ≡ a.header.shape.regs * a.header.shape.lanes) (λ lt. size) w.file);
+        files_below = subst (λ (rs : List (List ℕ)). (k j : ℕ) → slice_index (slice_index_or rs k []) j < a.header.shape.modulus) (sym registers_are)
+            (at_file (λ k (ws : List ℕ). (j : ℕ) → slice_index ws j < a.header.shape.modulus) below w.files_below);
         phase = w.phase;
         dones = w.dones;
         within = w.within;

@@ -11,7 +11,7 @@ use Rattle.par_machine.specs.Context.{Context}
 use Rattle.par_machine.specs.Frame.{Frame, code_of_frame, IsRunning}
 use Rattle.par_machine.specs.Lengths.{HasLengths}
 use Rattle.par_machine.specs.Processors.{fresh, as_new, registers_of, cursors_of, counts_of_all}
-use Rattle.par_machine.specs.View.{frame_of, stand_with, running_of, IsWhole}
+use Rattle.par_machine.specs.Views.{frame_of, stand_with, running_of, IsWhole}
 use Rattle.par_machine.proofs.Each.{map_replicate}
 use Rattle.par_machine.proofs.Frames.{has_lengths}
 use Rattle.par_machine.proofs.Starts.{IsFirst, first_state, first_runs}
@@ -24,8 +24,8 @@ all_new (p ∷ ps) words each =
 
 -- what has been written
 pub record IsPut (a : Inside) (input : List ℕ) (u : State) (processors : List Context) : Type 0 where
-  pub size : length input ≡ a.engine.shape.size
-  pub residues : AreBelow a.engine.shape.modulus input
+  pub size : length input ≡ a.header.shape.size
+  pub residues : AreBelow a.header.shape.modulus input
   pub memory : u.memory ≡ input ++ replicate (length a.memory.items - length input) 0
   pub as_new_ones : processors ≡ map as_new a.processors.items
   pub registers : u.registers ≡ registers_of processors
@@ -39,8 +39,8 @@ put_first : (a : Inside) (input : List ℕ) (u : State) (processors : List Conte
     IsPut a input u processors → IsFirst (frame_of a) input (stand_with u processors)
 put_first a input u processors w h =
     let f : Frame = frame_of a in
-    let procs : ℕ = a.engine.shape.procs in
-    let words : ℕ = a.engine.shape.regs * a.engine.shape.lanes in
+    let procs : ℕ = a.header.shape.procs in
+    let words : ℕ = a.header.shape.regs * a.header.shape.lanes in
     let count : length a.processors.items ≡ procs = sym (length-map a.processors.items (λ (p : Context). p.place)) ∙ w.running.cursors in
     let all : processors ≡ replicate procs (fresh words) =
     h.as_new_ones ∙ (all_new a.processors.items words (λ q lt. w.running.file q (omega (arith, lt, count))) ∙ ap (λ k. replicate k (fresh words)) count) in

@@ -8,7 +8,7 @@ use Rattle.std.proofs.Math.Nat.{mul-le-mul, mul-le-mul_left}
 use Rattle.icode.specs.Machine.{Code, State, acts, completion, none_done, phases_after, rest_of_phase, whole_phases}
 use Rattle.par_machine.specs.declared.machine.Machine.TheInside.{Inside}
 use Rattle.par_machine.specs.Frame.{lens_of, total}
-use Rattle.par_machine.specs.View.{frame_of, running_of, IsWhole}
+use Rattle.par_machine.specs.Views.{frame_of, running_of, IsWhole}
 use Rattle.par_machine.proofs.Frames.{has_lengths}
 
 -- turns of n processors, each at most so often
@@ -59,6 +59,6 @@ module _ (code : Code) (lens : List ℕ) (each : (phase q : ℕ) → q < code.pr
 pub few_left : (a : Inside) → IsWhole a → length (completion (running_of a).code (running_of a).state) < 2 ^ 63
 few_left a w =
     let turns = few_turns (running_of a).code (lens_of a.phases.items) (has_lengths (frame_of a)).each (running_of a).state in
-    let procs : a.engine.shape.procs ≤ 16 = w.ready.limits.of_procs.1 in
+    let procs : a.header.shape.procs ≤ 16 = w.ready.limits.of_procs.1 in
     let actions : total (lens_of a.phases.items) ≤ 2 ^ 59 - 1 = omega (arith, w.ready.few) in
     omega (arith, turns, mul-le-mul procs actions)

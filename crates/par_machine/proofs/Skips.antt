@@ -24,7 +24,7 @@ use Rattle.par_machine.specs.Position.{Position, first_position, next_position}
 use Rattle.par_machine.specs.Processors.{IsAct, counted_at, passed_over, rewound, registers_of, cursors_of}
 use Rattle.par_machine.specs.Processors.{counts_of_all}
 use Rattle.par_machine.specs.Skipped.{skipped}
-use Rattle.par_machine.specs.View.{frame_of, stand_of, stand_with}
+use Rattle.par_machine.specs.Views.{frame_of, stand_of, stand_with}
 use Rattle.par_machine.proofs.Each.{map_set}
 use Rattle.par_machine.proofs.Frames.{has_lengths, hand_action}
 use Rattle.par_machine.proofs.Playings.{counted_op_is}
@@ -77,9 +77,9 @@ skip_acts a q r p code h e =
     subst (λ (xs : List Instruction). IsAct (slice_get xs p.place.at)) (sym e) (acts_if_runs (frame_of a) p.place.values q _ (runs_here a q r p h))
 
 pub skip_room : (a : Inside) (q : ℕ) (r : Routine) (p : Context) → IsLeft a q 1 r p →
-    HasRoom a.engine.shape.lanes p.counts
+    HasRoom a.header.shape.lanes p.counts
 skip_room a q r p h =
-    let e : 1 * a.engine.shape.lanes ≡ a.engine.shape.lanes = omega arith in
+    let e : 1 * a.header.shape.lanes ≡ a.header.shape.lanes = omega arith in
     subst (λ n. HasRoom n p.counts) e (can_begin a q 1 r p h).counters
 
 -- Where the machine stands after it
@@ -88,7 +88,7 @@ pub record IsSkipped (a : Inside) (q : ℕ) (r : Routine) (p : Context) (u : Sta
   pub code : List Instruction
   pub code_is : code ≡ r.code.items
   pub after : Context
-  pub passed : after ≡ passed_over a.engine.shape.lanes code p
+  pub passed : after ≡ passed_over a.header.shape.lanes code p
   pub phases : List Routine
   pub phases_are : phases ≡ a.phases.items
   pub done : List ℕ
@@ -134,10 +134,10 @@ module _ (a : Inside) (q : ℕ) (r : Routine) (p : Context) (u : State) (process
   lens : HasLengths code_here m.phases
   lens = subst (HasLengths code_here) (sym m.phases_are) (has_lengths frame)
 
-  some_procs : 0 < a.engine.shape.procs
+  some_procs : 0 < a.header.shape.procs
   some_procs = omega (arith, h.proc)
 
-  count : length m.done ≡ a.engine.shape.procs
+  count : length m.done ≡ a.header.shape.procs
   count = ap length m.done_is ∙ (length-set a.done.items q _ ∙ h.whole.running.dones)
 
   done_next : m.done ≡ next_done
@@ -152,7 +152,7 @@ module _ (a : Inside) (q : ℕ) (r : Routine) (p : Context) (u : State) (process
   after : processors ≡ cond busy m.moved (map rewound m.moved)
   after = m.processors_after code_here lens some_procs (sym count)
 
-  all : length m.moved ≡ a.engine.shape.procs
+  all : length m.moved ≡ a.header.shape.procs
   all = ap length m.moved_is ∙ (length-set a.processors.items q m.after ∙ (sym (length-map a.processors.items (λ (p : Context). p.place)) ∙ h.whole.running.cursors))
 
   place_is : m.after.place ≡ next_position r.code.items p.place
@@ -182,7 +182,7 @@ module _ (a : Inside) (q : ℕ) (r : Routine) (p : Context) (u : State) (process
         places = ap cursors_of after
             ∙ (cursors_kept busy m.moved
             ∙ (ap₂ (λ (b : Bool) (k : ℕ). cond b (cursors_of m.moved) (replicate k first_position)) same_busy all
-            ∙ ap (λ (cs : List Position). cond (is_open code_here a.phase next_done) cs (replicate a.engine.shape.procs first_position))
+            ∙ ap (λ (cs : List Position). cond (is_open code_here a.phase next_done) cs (replicate a.header.shape.procs first_position))
             (ap cursors_of m.moved_is
             ∙ (map_set (λ (p : Context). p.place) a.processors.items q m.after
             ∙ ap (slice_set (cursors_of a.processors.items) q) place_is))));

@@ -21,7 +21,7 @@ use Rattle.par_machine.specs.Processors.{rewound, registers_of, cursors_of, coun
 use Rattle.par_machine.specs.Frame.{Frame, Stand, code_of_frame, lens_of}
 use Rattle.par_machine.specs.Running.{Running}
 use Rattle.par_machine.specs.Unfinished.{IsUnfinished}
-use Rattle.par_machine.specs.View.{frame_of, stand_of, stand_with, running_of, IsWhole}
+use Rattle.par_machine.specs.Views.{frame_of, stand_of, stand_with, running_of, IsWhole}
 use Rattle.par_machine.proofs.Advances.{IsSet, IsAdvanced, IsRun, advanced_runs, unfinished_is}
 use Rattle.par_machine.proofs.Each.{at_map, map_set, map_map, map_all}
 use Rattle.par_machine.proofs.Executed.{counts_small, small_has_room, executed_room}
@@ -58,7 +58,7 @@ begin_of a q p = record { memory = a.memory.items; registers = slice_index_or (r
 -- a machine whose processor q is p, which has n actions left in a phase of this routine
 pub record IsLeft (a : Inside) (q n : ℕ) (r : Routine) (p : Context) : Type 0 where
   pub whole : IsWhole a
-  pub proc : q < a.engine.shape.procs
+  pub proc : q < a.header.shape.procs
   pub some : 0 < n
   pub most : slice_index a.done.items q + n ≤ length (acts (running_of a).code a.phase q)
   pub routine : r ≡ get_or a.phases.items a.phase r
@@ -77,7 +77,7 @@ left_is a now q n r p is whole proc some most routine processor =
       processor = processor;
     }
 
-pub processor_there : (a : Inside) (q : ℕ) → IsWhole a → q < a.engine.shape.procs → q < length a.processors.items
+pub processor_there : (a : Inside) (q : ℕ) → IsWhole a → q < a.header.shape.procs → q < length a.processors.items
 processor_there a q w lt = omega (arith, lt, w.running.cursors, length-map a.processors.items (λ (p : Context). p.place))
 
 begin_is : (a : Inside) (q : ℕ) (p : Context) (memory : List ℕ) → q < length a.processors.items →
@@ -106,7 +106,7 @@ count_room : (n lanes len whole : ℕ) → lanes ≤ 16 → len + n ≤ whole �
 count_room n lanes len whole few room limit = omega (arith, room, limit, mul-le-mul_left (len + n) few)
 
 pub can_begin : (a : Inside) (q n : ℕ) (r : Routine) (p : Context) → IsLeft a q n r p →
-    CanPlay (header_of a.engine) r.code.items q n (begin_of a q p)
+    CanPlay (header_of a.header) r.code.items q n (begin_of a q p)
 can_begin a q n r p h =
     let f : Frame = frame_of a in
     let t : Stand = stand_of a in
@@ -114,7 +114,7 @@ can_begin a q n r p h =
     let ready = h.whole.ready in
     let set = set_is a q n r p h in
     let routine = routine_is f a.phase r ready set.here.phase h.routine in
-    let lanes = a.engine.shape.lanes in
+    let lanes = a.header.shape.lanes in
     let few : lanes ≤ 16 = ready.limits.of_lanes.1 in
     let xs : List Action = executed (code_of_frame f) t.state q in
     let room = executed_room (code_of_frame f) (is_code f) t.state q n (lens_of f.phases) (λ phase. acts_places f phase q h.proc ∙ places_lens f.phases phase) h.some h.most in
@@ -132,10 +132,10 @@ can_begin a q n r p h =
 
 pub can_play : (a : Inside) (q n : ℕ) (r : Routine) (p : Context) (code : List Instruction) (memory : List ℕ) →
     IsLeft a q n r p → code ≡ r.code.items → memory ≡ a.memory.items →
-    CanPlay (header_of a.engine) code q n (playing memory p)
+    CanPlay (header_of a.header) code q n (playing memory p)
 can_play a q n r p code memory h ec em =
-    subst (λ (s : Playing). CanPlay (header_of a.engine) code q n s) (sym (begin_is a q p memory (processor_there a q h.whole h.proc) h.processor em))
-    (subst (λ (xs : List Instruction). CanPlay (header_of a.engine) xs q n (begin_of a q p)) (sym ec) (can_begin a q n r p h))
+    subst (λ (s : Playing). CanPlay (header_of a.header) code q n s) (sym (begin_is a q p memory (processor_there a q h.whole h.proc) h.processor em))
+    (subst (λ (xs : List Instruction). CanPlay (header_of a.header) xs q n (begin_of a q p)) (sym ec) (can_begin a q n r p h))
 
 -- What the phase's move leaves of the processors
 
@@ -156,7 +156,7 @@ pub record IsMoved (a : Inside) (q n : ℕ) (r : Routine) (p : Context) (u : Sta
   pub before : List ℕ
   pub before_is : before ≡ a.memory.items
   pub after : Context
-  pub played : playing u.memory after ≡ Rattle.par_machine.specs.Played.played (header_of a.engine) code q n
+  pub played : playing u.memory after ≡ Rattle.par_machine.specs.Played.played (header_of a.header) code q n
       (playing before p)
   pub phases : List Routine
   pub phases_are : phases ≡ a.phases.items
@@ -179,15 +179,15 @@ moved_advances a q n r p u processors h m =
     let code : Code = code_of_frame f in
     let ps : List Context = a.processors.items in
     let there = processor_there a q h.whole h.proc in
-    let last : Playing = Rattle.par_machine.specs.Played.played (header_of a.engine) r.code.items q n (begin_of a q p) in
-    let played : playing u.memory m.after ≡ last = m.played ∙ ap₂ (λ (xs : List Instruction) (s : Playing). Rattle.par_machine.specs.Played.played (header_of a.engine) xs q n s) m.code_is (begin_is a q p m.before there h.processor m.before_is) in
+    let last : Playing = Rattle.par_machine.specs.Played.played (header_of a.header) r.code.items q n (begin_of a q p) in
+    let played : playing u.memory m.after ≡ last = m.played ∙ ap₂ (λ (xs : List Instruction) (s : Playing). Rattle.par_machine.specs.Played.played (header_of a.header) xs q n s) m.code_is (begin_is a q p m.before there h.processor m.before_is) in
     let lens : HasLengths code m.phases = subst (HasLengths code) (sym m.phases_are) (has_lengths f) in
-    let pos : 0 < a.engine.shape.procs = omega (arith, h.proc) in
-    let count : length m.done ≡ a.engine.shape.procs = ap length m.done_is ∙ (length-set a.done.items q _ ∙ h.whole.running.dones) in
+    let pos : 0 < a.header.shape.procs = omega (arith, h.proc) in
+    let count : length m.done ≡ a.header.shape.procs = ap length m.done_is ∙ (length-set a.done.items q _ ∙ h.whole.running.dones) in
     let busy : Bool = is_open code a.phase m.done in
     let same_busy : busy ≡ is_open code a.phase (slice_set a.done.items q (slice_index a.done.items q + n)) = ap (is_open code a.phase) m.done_is in
     let after : processors ≡ cond busy m.moved (map rewound m.moved) = m.processors_after code lens pos (sym count) in
-    let all : length m.moved ≡ a.engine.shape.procs =
+    let all : length m.moved ≡ a.header.shape.procs =
     ap length m.moved_is ∙ (length-set ps q m.after ∙ (sym (length-map ps (λ (p : Context). p.place)) ∙ h.whole.running.cursors)) in
     let phases : ℕ → ℕ = λ k. first_open code (k - (a.phase + 1)) (a.phase + 1) in
     record {
@@ -205,7 +205,7 @@ moved_advances a q n r p u processors h m =
       places = ap cursors_of after
           ∙ (cursors_kept busy m.moved
           ∙ (ap₂ (λ (b : Bool) (k : ℕ). cond b (cursors_of m.moved) (replicate k first_position)) same_busy all
-          ∙ ap (λ (cs : List Position). cond (is_open code a.phase (slice_set a.done.items q (slice_index a.done.items q + n))) cs (replicate a.engine.shape.procs first_position))
+          ∙ ap (λ (cs : List Position). cond (is_open code a.phase (slice_set a.done.items q (slice_index a.done.items q + n))) cs (replicate a.header.shape.procs first_position))
           (ap cursors_of m.moved_is
           ∙ (map_set (λ (p : Context). p.place) ps q m.after
           ∙ ap (λ (s : Playing). slice_set (cursors_of ps) q s.place) played))));
@@ -228,7 +228,7 @@ pub unfinished_at : (a : Inside) (q : ℕ) (r : Routine) → IsWhole a → a.pha
     r ≡ get_or a.phases.items a.phase r → IsFirstLeft a.done.items r.len q →
     IsUnfinished (running_of a).code (running_of a).state q
 unfinished_at a q r w here e first =
-    let inside : q < a.engine.shape.procs = omega (arith, first.inside, w.running.dones) in
+    let inside : q < a.header.shape.procs = omega (arith, first.inside, w.running.dones) in
     unfinished_is (running_of a).code (is_code (frame_of a)) q (running_of a).state w.running.dones inside
     (omega (arith, here, count_lists (frame_of a)))
     (omega (arith, first.left, len_is a q r inside here e))

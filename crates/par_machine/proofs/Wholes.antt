@@ -14,22 +14,22 @@ use Rattle.par_machine.specs.Lengths.{IsFirstLeft}
 use Rattle.par_machine.specs.Position.{Position, first_position}
 use Rattle.par_machine.specs.Frame.{total}
 use Rattle.par_machine.specs.Processors.{cursors_of}
-use Rattle.par_machine.specs.View.{frame_of, stand_of, running_of, IsWhole}
+use Rattle.par_machine.specs.Views.{frame_of, stand_of, running_of, IsWhole}
 use Rattle.par_machine.proofs.Frames.{length-positions, places_at, places_past, acts_places, is_code, count_lists}
 use Rattle.par_machine.proofs.Frames.{has_lengths, IsHere}
 use Rattle.par_machine.proofs.Phases.{over_now}
 
-pub done_is : (a : Inside) (proc done : ℕ) → IsWhole a → proc < a.engine.shape.procs →
+pub done_is : (a : Inside) (proc done : ℕ) → IsWhole a → proc < a.header.shape.procs →
     done ≡ get_or a.done.items proc done → slice_index a.done.items proc ≡ done
 done_is a proc done w lt e = sym (e ∙ get_or_default_zero a.done.items proc done (omega (arith, w.running.dones)))
 
 -- the length of the list of the phase
-pub len_is : (a : Inside) (proc : ℕ) (r : Routine) → proc < a.engine.shape.procs → a.phase < length a.phases.items →
+pub len_is : (a : Inside) (proc : ℕ) (r : Routine) → proc < a.header.shape.procs → a.phase < length a.phases.items →
     r ≡ get_or a.phases.items a.phase r → length (acts (running_of a).code a.phase proc) ≡ r.len
 len_is a proc r lt here e =
     acts_places (frame_of a) a.phase proc lt ∙ (ap length (places_at (frame_of a) a.phase r here e) ∙ length-positions r.code.items r.len first_position)
 
-pub len_past : (a : Inside) (proc : ℕ) → proc < a.engine.shape.procs → length a.phases.items ≤ a.phase →
+pub len_past : (a : Inside) (proc : ℕ) → proc < a.header.shape.procs → length a.phases.items ≤ a.phase →
     length (acts (running_of a).code a.phase proc) ≡ 0
 len_past a proc lt past = acts_places (frame_of a) a.phase proc lt ∙ places_past (frame_of a) a.phase past
 
@@ -39,7 +39,7 @@ done_within a proc r w here e =
     omega (arith, w.running.within proc, ap length (places_at (frame_of a) a.phase r here e), length-positions r.code.items r.len first_position)
 
 -- where an action is left, there is a phase
-pub phase_is_there : (a : Inside) (proc : ℕ) → IsWhole a → proc < a.engine.shape.procs →
+pub phase_is_there : (a : Inside) (proc : ℕ) → IsWhole a → proc < a.header.shape.procs →
     slice_index a.done.items proc < length (acts (running_of a).code a.phase proc) → a.phase < length a.phases.items
 phase_is_there a proc w lt left =
     ⊎_elim
@@ -47,7 +47,7 @@ phase_is_there a proc w lt left =
     (λ (h : length a.phases.items ≤ a.phase). absurd (omega (arith, left, len_past a proc lt h)))
     (cases_lt a.phase (length a.phases.items))
 
-pub here_is : (a : Inside) (proc : ℕ) (r : Routine) (cursor : Position) → IsWhole a → proc < a.engine.shape.procs →
+pub here_is : (a : Inside) (proc : ℕ) (r : Routine) (cursor : Position) → IsWhole a → proc < a.header.shape.procs →
     slice_index a.done.items proc < length (acts (running_of a).code a.phase proc) →
     r ≡ get_or a.phases.items a.phase r → cursor ≡ get_or (cursors_of a.processors.items) proc cursor →
     IsHere (frame_of a) (stand_of a) proc r cursor
@@ -69,10 +69,10 @@ nothing_left a past = completion_past (running_of a).code (is_code (frame_of a))
 
 pub next_left : (a : Inside) (q : ℕ) (r : Routine) → IsWhole a → a.phase < length a.phases.items →
     r ≡ get_or a.phases.items a.phase r → IsFirstLeft a.done.items r.len q →
-    (q < a.engine.shape.procs) × (completion (running_of a).code (running_of a).state ≡ q
+    (q < a.header.shape.procs) × (completion (running_of a).code (running_of a).state ≡ q
     ∷ completion (running_of a).code (turn (running_of a).code (running_of a).state q))
 next_left a q r w here e first =
-    let inside : q < a.engine.shape.procs = omega (arith, first.inside, w.running.dones) in (
+    let inside : q < a.header.shape.procs = omega (arith, first.inside, w.running.dones) in (
       inside,
       completion_step (running_of a).code (is_code (frame_of a)) (running_of a).state q _ w.running.dones inside
           (omega (arith, here, count_lists (frame_of a)))

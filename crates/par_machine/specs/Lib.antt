@@ -13,6 +13,6 @@ pub mod Played
 pub mod Unfinished
 pub mod Running
 pub mod Skipped
-pub mod View
+pub mod Views
 pub mod Translated
 pub mod Held

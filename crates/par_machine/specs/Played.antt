@@ -6,7 +6,7 @@ use Rattle.icode.specs.Machine.{Local, effect, counted, whole_lines}
 use Rattle.icode.specs.Plain.{PlainProgram}
 use Rattle.par_machine.specs.declared.cursor.Instruction.{Instruction}
 use Rattle.par_machine.specs.Context.{Context}
-use Rattle.par_machine.specs.declared.engine.Engine.{Engine}
+use Rattle.par_machine.specs.declared.header.Header.{Header}
 use Rattle.par_machine.specs.Header.{header_of}
 use Rattle.par_machine.specs.Hand.{step_at, action_of_step, Runs}
 use Rattle.par_machine.specs.Instruction.{IsClosed, IsWithin}
@@ -42,8 +42,8 @@ played p code q zero s = s
 played p code q (suc n) s = played p code q n (played_one p code q s)
 
 -- the step at its place
-abbrev pub step_here : Engine → List Instruction → ℕ → Context → Option Step
-step_here engine code proc context = step_at (header_of engine) code proc context.place
+abbrev pub step_here : Header → List Instruction → ℕ → Context → Option Step
+step_here header code proc context = step_at (header_of header) code proc context.place
 
 -- what processor q needs to do n actions: they fit, all words are there and below the modulus, and the actions can be
 -- counted

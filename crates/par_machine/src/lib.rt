@@ -3,7 +3,7 @@
 
 mod compile;
 mod cursor;
-mod engine;
+mod header;
 mod initial;
 mod machine;
 mod perform;

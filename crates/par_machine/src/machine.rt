@@ -9,7 +9,7 @@ ghost use Rattle.par_machine.specs.Held.{AreFiles, with_memory, with_file};
 ghost use Rattle.par_machine.specs.Skipped.{skipped};
 ghost use Rattle.par_machine.specs.Unfinished.{IsNextTurn, IsUnfinished, left_of};
 
-use crate::engine::Engine;
+use crate::header::Header;
 use crate::initial::{compile_phases, make_processors, put_input, zeros};
 use crate::phase::{Routine, first_busy, first_left, settle};
 use crate::processor::{Processor, reset_all};
@@ -26,7 +26,7 @@ use std::marker::Model;
 /// program's code and the counters of its open loops, and no list of actions.
 #[derive(Drop)]
 pub struct Machine {
-    engine: Engine,
+    header: Header,
     phases: Vec<Routine>,
     memory: Vec<u64>,
     phase: u64,
@@ -40,7 +40,7 @@ impl Model for Machine {
 
     ghost Value = { Running };
 
-    ghost use Rattle.par_machine.specs.View.{running_of, IsWhole};
+    ghost use Rattle.par_machine.specs.Views.{running_of, IsWhole};
 
     ghost view = { running_of };
 
@@ -55,15 +55,15 @@ impl Machine {
         ensures state { IfOk result (λ machine. machine.state
             ≡ start (code_of program.now) (replicate program.now.size 0)) }
     {
-        let engine = Engine::new(alloc, program)?;
+        let header = Header::new(alloc, program)?;
         let phases = compile_phases(alloc, program)?;
-        let memory = zeros(alloc, 4 * engine.shape.room)?;
+        let memory = zeros(alloc, 4 * header.shape.room)?;
         let phase = first_busy(&phases, 0);
-        let done = zeros(alloc, engine.shape.procs)?;
-        let words = engine.shape.regs * engine.shape.lanes;
-        let processors = make_processors(alloc, engine.shape.procs, words)?;
+        let done = zeros(alloc, header.shape.procs)?;
+        let words = header.shape.regs * header.shape.lanes;
+        let processors = make_processors(alloc, header.shape.procs, words)?;
         Ok(Machine {
-            engine,
+            header,
             phases,
             memory,
             phase,
@@ -93,7 +93,7 @@ impl Machine {
     {
         let routine = &self.phases[self.phase as usize];
         let processor = &self.processors[proc as usize];
-        processor.action(&self.engine, &routine.code, proc)
+        processor.action(&self.header, &routine.code, proc)
     }
 
     /// The processor does the next `count` of its actions.
@@ -107,7 +107,7 @@ impl Machine {
     {
         let routine = &self.phases[self.phase as usize];
         let processor = &mut self.processors[proc as usize];
-        processor.play(&self.engine, &routine.code, proc, count, &mut self.memory);
+        processor.play(&self.header, &routine.code, proc, count, &mut self.memory);
         self.done[proc as usize] += count;
         self.phase = settle(
             &self.phases,
@@ -172,7 +172,7 @@ impl Machine {
     {
         let routine = &self.phases[self.phase as usize];
         let processor = &mut self.processors[proc as usize];
-        processor.skip(self.engine.shape.lanes, &routine.code);
+        processor.skip(self.header.shape.lanes, &routine.code);
         self.done[proc as usize] += 1;
         self.phase = settle(
             &self.phases,
@@ -298,7 +298,7 @@ impl Machine {
     pub fn modulus(&self) -> Modulus
         ensures { result ≡ self.now.code.modulus }
     {
-        self.engine.shape.modulus.modulus()
+        self.header.shape.modulus.modulus()
     }
 
     /// The number of processors.
@@ -306,7 +306,7 @@ impl Machine {
         ensures value { result ≡ self.now.code.procs }
         ensures limits { (1 ≤ result) × (result ≤ 16) }
     {
-        self.engine.shape.procs
+        self.header.shape.procs
     }
 
     /// The number of lanes.
@@ -314,7 +314,7 @@ impl Machine {
         ensures value { result ≡ self.now.code.lanes }
         ensures limits { (1 ≤ result) × (result ≤ 16) }
     {
-        self.engine.shape.lanes
+        self.header.shape.lanes
     }
 
     /// The number of words of a vector.
@@ -322,7 +322,7 @@ impl Machine {
         ensures value { result ≡ self.now.code.size }
         ensures some { 0 < result }
     {
-        self.engine.shape.size
+        self.header.shape.size
     }
 
     /// The number of words of memory.
@@ -331,6 +331,6 @@ impl Machine {
         ensures memory { result ≡ length self.now.state.memory }
         ensures room { (0 < self.now.code.size) × (self.now.code.size ≤ padded self.now.code) }
     {
-        4 * self.engine.shape.room
+        4 * self.header.shape.room
     }
 }

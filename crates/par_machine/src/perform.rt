@@ -8,7 +8,7 @@ ghost use Rattle.par_machine.specs.Header.{header_of};
 ghost use Rattle.par_machine.specs.OnRegisters.{IsOnRegisters, operations_of, muls_of, counted_op};
 ghost use Rattle.par_machine.specs.Performed.{HasRoom, OpIsWithin, step_by, action_by, performed};
 
-use crate::engine::Engine;
+use crate::header::Header;
 use crate::scale::{scale_by_constant, scale_by_entries};
 use icode::action::Counts;
 use icode::address::address_at;
@@ -19,24 +19,24 @@ use icode::program::Op;
 /// Does the operation, where these are the values of the open loops on this processor.
 #[inline]
 pub(crate) fn perform(
-    engine: &Engine,
+    header: &Header,
     op: &Op,
     values: &[u64],
     proc: u64,
     memory: &mut [u64],
     registers: &mut [u64],
 )
-    requires within { OpIsWithin engine.now op.now (length values.now) }
-    requires fits { StepFits (header_of engine.now) (step_by engine.now op.now values.now proc) }
-    requires memory { length memory.old ≡ 4 * engine.now.shape.room }
-    requires file { length registers.old ≡ engine.now.shape.regs * engine.now.shape.lanes }
-    requires residues { (k : ℕ) → slice_index registers.old k < engine.now.shape.modulus }
+    requires within { OpIsWithin header.now op.now (length values.now) }
+    requires fits { StepFits (header_of header.now) (step_by header.now op.now values.now proc) }
+    requires memory { length memory.old ≡ 4 * header.now.shape.room }
+    requires file { length registers.old ≡ header.now.shape.regs * header.now.shape.lanes }
+    requires residues { (k : ℕ) → slice_index registers.old k < header.now.shape.modulus }
     ensures memory { memory.new
-        ≡ (performed engine.now op.now values.now proc memory.old registers.old).memory }
+        ≡ (performed header.now op.now values.now proc memory.old registers.old).memory }
     ensures registers { registers.new
-        ≡ (performed engine.now op.now values.now proc memory.old registers.old).registers }
+        ≡ (performed header.now op.now values.now proc memory.old registers.old).registers }
 {
-    let shape = &engine.shape;
+    let shape = &header.shape;
     let lanes = shape.lanes;
     // Two tests tell loads and stores, and one jump the others: more arms make it two jumps.
     match op {
@@ -56,7 +56,7 @@ pub(crate) fn perform(
             let at = address_at(shape.room, *array, place.value(values, proc));
             copy_lanes(registers, *register * lanes, memory, at, lanes);
         }
-        _ => perform_on_registers(engine, op, values, proc, registers),
+        _ => perform_on_registers(header, op, values, proc, registers),
     }
 }
 
@@ -80,16 +80,16 @@ pub(crate) fn counted(op: &Op, lanes: u64, before: Counts) -> Counts
 
 /// Does the operation, which loads and stores nothing, on one processor's registers.
 #[inline]
-fn perform_on_registers(engine: &Engine, op: &Op, values: &[u64], proc: u64, registers: &mut [u64])
+fn perform_on_registers(header: &Header, op: &Op, values: &[u64], proc: u64, registers: &mut [u64])
     requires on_registers { IsOnRegisters (plain_op op.now) }
-    requires within { OpIsWithin engine.now op.now (length values.now) }
-    requires fits { StepFits (header_of engine.now) (step_by engine.now op.now values.now proc) }
-    requires file { length registers.old ≡ engine.now.shape.regs * engine.now.shape.lanes }
-    requires residues { (k : ℕ) → slice_index registers.old k < engine.now.shape.modulus }
-    ensures { registers.new ≡ registers_after engine.now.shape.modulus engine.now.shape.lanes
-        (action_by engine.now op.now values.now proc) registers.old }
+    requires within { OpIsWithin header.now op.now (length values.now) }
+    requires fits { StepFits (header_of header.now) (step_by header.now op.now values.now proc) }
+    requires file { length registers.old ≡ header.now.shape.regs * header.now.shape.lanes }
+    requires residues { (k : ℕ) → slice_index registers.old k < header.now.shape.modulus }
+    ensures { registers.new ≡ registers_after header.now.shape.modulus header.now.shape.lanes
+        (action_by header.now op.now values.now proc) registers.old }
 {
-    let shape = &engine.shape;
+    let shape = &header.shape;
     match op {
         Op::Zero { register } => clear_register(shape, registers, *register),
         Op::Add {
@@ -115,7 +115,7 @@ fn perform_on_registers(engine: &Engine, op: &Op, values: &[u64], proc: u64, reg
             place,
             step,
         } => {
-            let entries = &engine.tables[*table as usize];
+            let entries = &header.tables[*table as usize];
             let at = place.value(values, proc);
             scale_by_entries(shape, registers, (*register, *source), entries, at, *step);
         }

@@ -9,7 +9,7 @@ ghost use Rattle.par_machine.specs.Performed.{HasRoom};
 ghost use Rattle.par_machine.specs.Processors.{fresh, as_new, rewound, with_registers, IsAct, passed_over};
 
 use crate::cursor::{Instruction, OPEN_LOOPS, rest};
-use crate::engine::Engine;
+use crate::header::Header;
 use crate::initial::zeros;
 use crate::perform::{counted, perform};
 use icode::action::{Action, Counts};
@@ -105,16 +105,16 @@ impl Processor {
     }
 
     /// The action at its place.
-    pub(crate) fn action(&self, engine: &Engine, code: &[Instruction], proc: u64) -> Action
+    pub(crate) fn action(&self, header: &Header, code: &[Instruction], proc: u64) -> Action
         requires closed { All IsClosed code.now }
-        requires within { All (IsWithin engine.now.shape.modulus) code.now }
-        requires runs { Runs (header_of engine.now) (step_here engine.now code.now proc self.now) }
-        ensures { result ≡ action_of_step (step_here engine.now code.now proc self.now) }
+        requires within { All (IsWithin header.now.shape.modulus) code.now }
+        requires runs { Runs (header_of header.now) (step_here header.now code.now proc self.now) }
+        ensures { result ≡ action_of_step (step_here header.now code.now proc self.now) }
     {
         match &code[self.at as usize] {
             Instruction::Act { op, depth } => {
                 let values = &self.values[..*depth as usize];
-                op.action(&engine.shape, &engine.tables, values, proc)
+                op.action(&header.shape, &header.tables, values, proc)
             }
             Instruction::Again { .. } => unreachable!(),
         }
@@ -123,16 +123,16 @@ impl Processor {
     /// Does `count` actions, from its place on.
     pub(crate) fn play(
         &mut self,
-        engine: &Engine,
+        header: &Header,
         code: &[Instruction],
         proc: u64,
         count: u64,
         memory: &mut [u64],
     )
-        requires { CanPlay (header_of engine.now) code.now proc count
+        requires { CanPlay (header_of header.now) code.now proc count
             (playing memory.old self.old) }
         ensures { playing memory.new self.new
-            ≡ played (header_of engine.now) code.now proc count (playing memory.old self.old) }
+            ≡ played (header_of header.now) code.now proc count (playing memory.old self.old) }
     {
         let mut at = self.at;
         let mut counts = self.counts;
@@ -143,14 +143,14 @@ impl Processor {
             match &code[at as usize] {
                 Instruction::Act { op, depth } => {
                     perform(
-                        engine,
+                        header,
                         op,
                         &values[..*depth as usize],
                         proc,
                         memory,
                         registers,
                     );
-                    counts = counted(op, engine.shape.lanes, counts);
+                    counts = counted(op, header.shape.lanes, counts);
                 }
                 Instruction::Again { .. } => unreachable!(),
             }

@@ -7,7 +7,7 @@ use Rattle.std.proofs.lemmas.Nat.{mul-lt}
 use Rattle.index_fn.specs.Mapping.{Mapping, Same, Always, Line, Strided, ThomasIn, ThomasOut, ThomasBack, Listed}
 use Rattle.index_fn.specs.Mapping.{Paired, After, IsWellFormed}
 use Rattle.perm_algebra.specs.Affine.{Sum, constant, variable, remainder, quotient, IsSound, HasNoQuotient, scaled}
-use Rattle.perm_algebra.specs.Affine.{joined, head, rest_of, mods, top, Divided, divided, reduced, simplified}
+use Rattle.perm_algebra.specs.Affine.{added, head, rest_of, mods, top, Divided, divided, reduced, simplified}
 use Rattle.perm_algebra.specs.Affine.{HasNoList}
 use Rattle.perm_algebra.specs.Fits.{IsAffine}
 use Rattle.perm_algebra.specs.Room.{HasCounts, IsReady}
@@ -39,20 +39,20 @@ module _ (P : Sum → Type 0) (by : IsByParts P) where
   kept-scaled k (quotient f of m rest) h =
       by.quotients f (k * f) of m rest (scaled k rest) h (kept-scaled k rest (by.behind_quotient f of m rest h))
 
-  pub kept-joined : (a e : Sum) → P a → P e → P (joined a e)
-  kept-joined (constant c) (constant d) h g = by.constants (c + d)
-  kept-joined (constant c) (variable f d rest) h g =
-      by.variables f f d rest _ g (kept-joined (constant c) rest h (by.behind_variable f d rest g))
-  kept-joined (constant c) (remainder f of m rest) h g =
-      by.remainders f f of m rest _ g (kept-joined (constant c) rest h (by.behind_remainder f of m rest g))
-  kept-joined (constant c) (quotient f of m rest) h g =
-      by.quotients f f of m rest _ g (kept-joined (constant c) rest h (by.behind_quotient f of m rest g))
-  kept-joined (variable f d rest) e h g =
-      by.variables f f d rest _ h (kept-joined rest e (by.behind_variable f d rest h) g)
-  kept-joined (remainder f of m rest) e h g =
-      by.remainders f f of m rest _ h (kept-joined rest e (by.behind_remainder f of m rest h) g)
-  kept-joined (quotient f of m rest) e h g =
-      by.quotients f f of m rest _ h (kept-joined rest e (by.behind_quotient f of m rest h) g)
+  pub kept-added : (a e : Sum) → P a → P e → P (added a e)
+  kept-added (constant c) (constant d) h g = by.constants (c + d)
+  kept-added (constant c) (variable f d rest) h g =
+      by.variables f f d rest _ g (kept-added (constant c) rest h (by.behind_variable f d rest g))
+  kept-added (constant c) (remainder f of m rest) h g =
+      by.remainders f f of m rest _ g (kept-added (constant c) rest h (by.behind_remainder f of m rest g))
+  kept-added (constant c) (quotient f of m rest) h g =
+      by.quotients f f of m rest _ g (kept-added (constant c) rest h (by.behind_quotient f of m rest g))
+  kept-added (variable f d rest) e h g =
+      by.variables f f d rest _ h (kept-added rest e (by.behind_variable f d rest h) g)
+  kept-added (remainder f of m rest) e h g =
+      by.remainders f f of m rest _ h (kept-added rest e (by.behind_remainder f of m rest h) g)
+  kept-added (quotient f of m rest) e h g =
+      by.quotients f f of m rest _ h (kept-added rest e (by.behind_quotient f of m rest h) g)
 
   pub kept-head : (s : ℕ) (e : Sum) → P e → P (head s e)
   kept-head s (constant c) h = by.constants (c / s)
@@ -104,36 +104,36 @@ module _ (P : Sum → Type 0) (by : IsByParts P) where
 
     -- a multiple of the quotient and one of the remainder, modulo the size
     kept-mixed : (cs : ℕ → ℕ) (r s a b : ℕ) (e : Sum) → 1 ≤ r → 1 ≤ s → P e →
-        P (reduced cs (r * s) (joined (scaled a (divided cs s e).quot) (scaled b (divided cs s e).rem)))
+        P (reduced cs (r * s) (added (scaled a (divided cs s e).quot) (scaled b (divided cs s e).rem)))
     kept-mixed cs r s a b e r_some s_some h =
         let q = (divided cs s e).quot in
         let t = (divided cs s e).rem in
         let d = kept-divided cs s e (omega (arith, s_some)) h in
-        kept-reduced cs (r * s) (joined (scaled a q) (scaled b t))
+        kept-reduced cs (r * s) (added (scaled a q) (scaled b t))
         (mul-lt 0 0 r s (omega (arith, r_some)) (omega (arith, s_some)))
-        (kept-joined (scaled a q) (scaled b t) (kept-scaled a q d.0) (kept-scaled b t d.1))
+        (kept-added (scaled a q) (scaled b t) (kept-scaled a q d.0) (kept-scaled b t d.1))
 
     pub kept-simplified : (cs : ℕ → ℕ) (f : Mapping) (e : Sum) → IsWellFormed f → HasNoList f → P e →
         P (simplified cs f e)
     kept-simplified cs Same e formed none h = h
     kept-simplified cs (Always v) e formed none h = by.constants v
-    kept-simplified cs (Line base step) e formed none h = kept-joined (constant base) (scaled step e) (by.constants base) (kept-scaled step e h)
+    kept-simplified cs (Line base step) e formed none h = kept-added (constant base) (scaled step e) (by.constants base) (kept-scaled step e h)
     kept-simplified cs (Strided r s) e formed none h =
         let z = divided cs s e in
         let d = kept-divided cs s e (omega (arith, formed.1)) h in
-        kept-joined (scaled r z.rem) z.quot (kept-scaled r z.rem d.1) d.0
+        kept-added (scaled r z.rem) z.quot (kept-scaled r z.rem d.1) d.0
     kept-simplified cs (ThomasIn r s) e formed none h = kept-mixed cs r s s r e formed.0 formed.1 h
     kept-simplified cs (ThomasOut r s) e formed none h =
         let y = divided cs r e in
         let z = divided cs s e in
-        kept-joined (scaled s y.rem) z.rem (kept-scaled s y.rem (kept-divided cs r e (omega (arith, formed.0)) h).1)
+        kept-added (scaled s y.rem) z.rem (kept-scaled s y.rem (kept-divided cs r e (omega (arith, formed.0)) h).1)
         (kept-divided cs s e (omega (arith, formed.1)) h).1
     kept-simplified cs (ThomasBack r s u v) e formed none h = kept-mixed cs r s u v e formed.0 formed.1 h
     kept-simplified cs (Listed places) e formed none h = absurd none
     kept-simplified cs (Paired f c g d) e formed none h =
         let z = divided cs d e in
         let k = kept-divided cs d e (omega (arith, formed.0)) h in
-        kept-joined (scaled c (simplified cs f z.quot)) (simplified cs g z.rem)
+        kept-added (scaled c (simplified cs f z.quot)) (simplified cs g z.rem)
         (kept-scaled c (simplified cs f z.quot) (kept-simplified cs f z.quot formed.1 none.0 k.0))
         (kept-simplified cs g z.rem formed.2 none.1 k.1)
     kept-simplified cs (After f g) e formed none h =
@@ -188,8 +188,8 @@ having_no_quotient = record {
 pub sound-scaled : (k : ℕ) (e : Sum) → IsSound e → IsSound (scaled k e)
 sound-scaled = kept-scaled IsSound soundness
 
-pub sound-joined : (a e : Sum) → IsSound a → IsSound e → IsSound (joined a e)
-sound-joined = kept-joined IsSound soundness
+pub sound-added : (a e : Sum) → IsSound a → IsSound e → IsSound (added a e)
+sound-added = kept-added IsSound soundness
 
 pub sound-mods : (n : ℕ) (e : Sum) → IsSound e → IsSound (mods n e)
 sound-mods = kept-mods IsSound soundness
@@ -200,14 +200,14 @@ sound-rest = kept-rest IsSound soundness
 pub counts-scaled : (n k : ℕ) (e : Sum) → HasCounts n e → HasCounts n (scaled k e)
 counts-scaled n = kept-scaled (HasCounts n) (having_counts n)
 
-pub counts-joined : (n : ℕ) (a e : Sum) → HasCounts n a → HasCounts n e → HasCounts n (joined a e)
-counts-joined n = kept-joined (HasCounts n) (having_counts n)
+pub counts-added : (n : ℕ) (a e : Sum) → HasCounts n a → HasCounts n e → HasCounts n (added a e)
+counts-added n = kept-added (HasCounts n) (having_counts n)
 
 pub plain-scaled : (k : ℕ) (e : Sum) → HasNoQuotient e → HasNoQuotient (scaled k e)
 plain-scaled = kept-scaled HasNoQuotient having_no_quotient
 
-pub plain-joined : (a e : Sum) → HasNoQuotient a → HasNoQuotient e → HasNoQuotient (joined a e)
-plain-joined = kept-joined HasNoQuotient having_no_quotient
+pub plain-added : (a e : Sum) → HasNoQuotient a → HasNoQuotient e → HasNoQuotient (added a e)
+plain-added = kept-added HasNoQuotient having_no_quotient
 
 pub plain-mods : (n : ℕ) (e : Sum) → HasNoQuotient e → HasNoQuotient (mods n e)
 plain-mods = kept-mods HasNoQuotient having_no_quotient

@@ -4,10 +4,10 @@ use Rattle.std.proofs.lemmas.Nat.{div-mul-add, mod-mul-add}
 use Rattle.index_fn.specs.Mapping.{at}
 use Rattle.perm_algebra.specs.Affine.{Sum, value, top, mods, IsSound, AreBelowCounts}
 use Rattle.perm_algebra.specs.declared.IndexRule.{IndexRule}
-use Rattle.perm_algebra.specs.declared.IndexRule.TheVariants.{Scale, Join, TakeMultiples, ReadOff, WriteOut}
+use Rattle.perm_algebra.specs.declared.IndexRule.TheVariants.{Scale, Add, TakeMultiples, ReadOff, WriteOut}
 use Rattle.perm_algebra.specs.declared.IndexRule.TheVariants.{ReduceFactors, DropRemainder, SplitTensor, NestComposed}
 use Rattle.perm_algebra.specs.Rules.{Holds}
-use Rattle.perm_algebra.proofs.AffineLaws.{value-scaled, value-joined, value-divided, value-le-top, reads-off}
+use Rattle.perm_algebra.proofs.AffineLaws.{value-scaled, value-added, value-divided, value-le-top, reads-off}
 use Rattle.perm_algebra.proofs.Kept.{sound-mods}
 use Rattle.perm_algebra.proofs.Reduced.{value-mods}
 
@@ -25,7 +25,7 @@ split_tensor f c g d i j below =
 
 pub holds : (rule : IndexRule) → Holds rule
 holds Scale = value-scaled
-holds Join = value-joined
+holds Add = value-added
 holds TakeMultiples = value-divided
 holds ReadOff = λ cs vs s e sound range small. let off = reads-off s e vs cs sound range small in (sym off.quot, sym off.rem)
 holds WriteOut = λ s e vs. (omega arith, omega arith)

@@ -4,7 +4,7 @@ use Rattle.std.specs.Prelude.{◌==◌}
 use Rattle.std.proofs.lemmas.Bool.{cases_eq, cases_lt}
 use Rattle.std.proofs.lemmas.Bool.Decides.{nat_tests}
 use Rattle.std.proofs.lemmas.Nat.{mul-lt}
-use Rattle.perm_algebra.specs.Affine.{Sum, constant, variable, remainder, quotient, top, scaled, joined, head, rest_of}
+use Rattle.perm_algebra.specs.Affine.{Sum, constant, variable, remainder, quotient, top, scaled, added, head, rest_of}
 use Rattle.perm_algebra.specs.Affine.{Divided, divided, mods, reduced, simplified}
 use Rattle.perm_algebra.specs.ShapeLaw.{tally, AddsRemainders, IsModulo, KeepsShape, ShapeKept}
 use Rattle.perm_algebra.proofs.Reduced.{mods-below}
@@ -17,14 +17,14 @@ tally-scaled q r k (variable f d rest) = tally-scaled q r k rest
 tally-scaled q r k (remainder f of m rest) = ap (λ n. r + tally q r of + n) (tally-scaled q r k rest)
 tally-scaled q r k (quotient f of m rest) = ap (λ n. q + tally q r of + n) (tally-scaled q r k rest)
 
-tally-joined : (q r : ℕ) (a e : Sum) → tally q r (joined a e) ≡ tally q r a + tally q r e
-tally-joined q r (constant c) (constant d) = refl
-tally-joined q r (constant c) (variable f d rest) = omega (arith, tally-joined q r (constant c) rest)
-tally-joined q r (constant c) (remainder f of m rest) = omega (arith, tally-joined q r (constant c) rest)
-tally-joined q r (constant c) (quotient f of m rest) = omega (arith, tally-joined q r (constant c) rest)
-tally-joined q r (variable f d rest) e = omega (arith, tally-joined q r rest e)
-tally-joined q r (remainder f of m rest) e = omega (arith, tally-joined q r rest e)
-tally-joined q r (quotient f of m rest) e = omega (arith, tally-joined q r rest e)
+tally-added : (q r : ℕ) (a e : Sum) → tally q r (added a e) ≡ tally q r a + tally q r e
+tally-added q r (constant c) (constant d) = refl
+tally-added q r (constant c) (variable f d rest) = omega (arith, tally-added q r (constant c) rest)
+tally-added q r (constant c) (remainder f of m rest) = omega (arith, tally-added q r (constant c) rest)
+tally-added q r (constant c) (quotient f of m rest) = omega (arith, tally-added q r (constant c) rest)
+tally-added q r (variable f d rest) e = omega (arith, tally-added q r rest e)
+tally-added q r (remainder f of m rest) e = omega (arith, tally-added q r rest e)
+tally-added q r (quotient f of m rest) e = omega (arith, tally-added q r rest e)
 
 tally-split : (q r s : ℕ) (e : Sum) → tally q r (head s e) + tally q r (rest_of s e) ≡ tally q r e
 tally-split q r s (constant c) = refl
@@ -75,17 +75,17 @@ modulo cs n e positive =
     }
 
 -- the two parts, each times a number
-tally-parts : (q r x y s : ℕ) (e : Sum) → tally q r (joined (scaled x (head s e)) (scaled y (rest_of s e)))
+tally-parts : (q r x y s : ℕ) (e : Sum) → tally q r (added (scaled x (head s e)) (scaled y (rest_of s e)))
     ≡ tally q r e
-tally-parts q r x y s e = omega (arith, tally-joined q r (scaled x (head s e)) (scaled y (rest_of s e)), tally-scaled q r x (head s e), tally-scaled q r y (rest_of s e), tally-split q r s e)
+tally-parts q r x y s e = omega (arith, tally-added q r (scaled x (head s e)) (scaled y (rest_of s e)), tally-scaled q r x (head s e), tally-scaled q r y (rest_of s e), tally-split q r s e)
 
-tally-turned : (q r k s : ℕ) (e : Sum) → tally q r (joined (scaled k (rest_of s e)) (head s e)) ≡ tally q r e
-tally-turned q r k s e = omega (arith, tally-joined q r (scaled k (rest_of s e)) (head s e), tally-scaled q r k (rest_of s e), tally-split q r s e)
+tally-turned : (q r k s : ℕ) (e : Sum) → tally q r (added (scaled k (rest_of s e)) (head s e)) ≡ tally q r e
+tally-turned q r k s e = omega (arith, tally-added q r (scaled k (rest_of s e)) (head s e), tally-scaled q r k (rest_of s e), tally-split q r s e)
 
 adds-mixed : (cs : ℕ → ℕ) (n x y s : ℕ) (e : Sum) → AddsRemainders 1 e
-    (reduced cs n (joined (scaled x (head s e)) (scaled y (rest_of s e))))
+    (reduced cs n (added (scaled x (head s e)) (scaled y (rest_of s e))))
 adds-mixed cs n x y s e =
-    let mixed = joined (scaled x (head s e)) (scaled y (rest_of s e)) in
+    let mixed = added (scaled x (head s e)) (scaled y (rest_of s e)) in
     record {
       quotients = omega (arith, tally-reduced 1 0 cs n mixed, tally-parts 1 0 x y s e);
       remainders = omega (arith, tally-reduced 0 1 cs n mixed, tally-parts 0 1 x y s e);
@@ -96,11 +96,11 @@ keeps-shape cs r s e r_positive s_positive apart =
     let positive : 0 < r * s = mul-lt 0 0 r s r_positive s_positive in
     record {
       turn = rw apart (record { quotients = omega (arith, tally-turned 1 0 r s e); remainders = omega (arith, tally-turned 0 1 r s e) });
-      thomas_in = rw apart (adds-mixed cs (r * s) s r s e, modulo cs (r * s) (joined (scaled s (head s e)) (scaled r (rest_of s e))) positive);
-      thomas_back = λ u v. rw apart (adds-mixed cs (r * s) u v s e, modulo cs (r * s) (joined (scaled u (head s e)) (scaled v (rest_of s e))) positive);
-      tensor = λ f c g. ap (λ (z : Divided). joined (scaled c (simplified cs f z.quot)) (simplified cs g z.rem)) apart;
+      thomas_in = rw apart (adds-mixed cs (r * s) s r s e, modulo cs (r * s) (added (scaled s (head s e)) (scaled r (rest_of s e))) positive);
+      thomas_back = λ u v. rw apart (adds-mixed cs (r * s) u v s e, modulo cs (r * s) (added (scaled u (head s e)) (scaled v (rest_of s e))) positive);
+      tensor = λ f c g. ap (λ (z : Divided). added (scaled c (simplified cs f z.quot)) (simplified cs g z.rem)) apart;
     }
 
 pub shape_kept : ShapeKept
 shape_kept cs r s a rest r_positive s_positive small =
-    keeps-shape cs r s (joined (scaled s a) rest) r_positive s_positive (divided-apart s a rest cs s_positive small)
+    keeps-shape cs r s (added (scaled s a) rest) r_positive s_positive (divided-apart s a rest cs s_positive small)

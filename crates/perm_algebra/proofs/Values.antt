@@ -6,16 +6,16 @@ use Rattle.std.proofs.lemmas.Nat.{mul-lt}
 use Rattle.std.proofs.lemmas.Bool.Decides.{nat_tests}
 use Rattle.index_fn.specs.Mapping.{Same, Always, Line, Strided, ThomasIn, ThomasOut, ThomasBack, Listed, Paired, After}
 use Rattle.index_fn.specs.Mapping.{at}
-use Rattle.perm_algebra.specs.Affine.{Sum, constant, remainder, quotient, value, top, IsSound, scaled, joined, head}
+use Rattle.perm_algebra.specs.Affine.{Sum, constant, remainder, quotient, value, top, IsSound, scaled, added, head}
 use Rattle.perm_algebra.specs.Affine.{rest_of, Divided, divided, mods, reduced, simplified, AreBelowCounts}
 use Rattle.perm_algebra.specs.Affine.{SimplifiedKeeps}
-use Rattle.perm_algebra.proofs.AffineLaws.{value-scaled, value-joined, value-le-top, reads-off}
-use Rattle.perm_algebra.proofs.Kept.{sound-scaled, sound-joined, sound-mods, sound-divided, sound-simplified}
+use Rattle.perm_algebra.proofs.AffineLaws.{value-scaled, value-added, value-le-top, reads-off}
+use Rattle.perm_algebra.proofs.Kept.{sound-scaled, sound-added, sound-mods, sound-divided, sound-simplified}
 use Rattle.perm_algebra.proofs.Reduced.{value-mods}
 
 -- a multiple of a sum and another sum
-value-with : (a : ℕ) (e g : Sum) (vs : ℕ → ℕ) → value (joined (scaled a e) g) vs ≡ a * value e vs + value g vs
-value-with a e g vs = value-joined (scaled a e) g vs ∙ ap (λ x. x + value g vs) (value-scaled a e vs)
+value-with : (a : ℕ) (e g : Sum) (vs : ℕ → ℕ) → value (added (scaled a e) g) vs ≡ a * value e vs + value g vs
+value-with a e g vs = value-added (scaled a e) g vs ∙ ap (λ x. x + value g vs) (value-scaled a e vs)
 
 module _ (cs vs : ℕ → ℕ) (range : AreBelowCounts vs cs) where
   -- ---- quotient and remainder by a divisor
@@ -59,7 +59,7 @@ module _ (cs vs : ℕ → ℕ) (range : AreBelowCounts vs cs) where
 
   -- a multiple of the quotient and one of the remainder, modulo the size
   value-mixed : (r s a b : ℕ) (e : Sum) → 1 ≤ r → 1 ≤ s → IsSound e →
-      value (reduced cs (r * s) (joined (scaled a (divided cs s e).quot) (scaled b (divided cs s e).rem))) vs
+      value (reduced cs (r * s) (added (scaled a (divided cs s e).quot) (scaled b (divided cs s e).rem))) vs
       ≡ (a * (value e vs / s) + b * (value e vs % s)) % (r * s)
   value-mixed r s a b e r_some s_some sound =
       let positive : 0 < s = omega arith in
@@ -67,8 +67,8 @@ module _ (cs vs : ℕ → ℕ) (range : AreBelowCounts vs cs) where
       let t = (divided cs s e).rem in
       let d = divides s e positive sound in
       let k = sound-divided cs s e positive sound in
-      value-reduced (r * s) (joined (scaled a q) (scaled b t)) (mul-lt 0 0 r s (omega arith) positive)
-      (sound-joined (scaled a q) (scaled b t) (sound-scaled a q k.0) (sound-scaled b t k.1))
+      value-reduced (r * s) (added (scaled a q) (scaled b t)) (mul-lt 0 0 r s (omega arith) positive)
+      (sound-added (scaled a q) (scaled b t) (sound-scaled a q k.0) (sound-scaled b t k.1))
       ∙ ap (λ x. x % (r * s))
       (value-with a q (scaled b t) vs ∙ ap₂ (λ x y. a * x + y) d.quot (value-scaled b t vs ∙ ap (λ x. b * x) d.rem))
 
@@ -78,7 +78,7 @@ pub simplified_keeps : SimplifiedKeeps
 simplified_keeps cs vs Same e h none sound range = refl
 simplified_keeps cs vs (Always v) e h none sound range = refl
 simplified_keeps cs vs (Line base by) e h none sound range =
-    value-joined (constant base) (scaled by e) vs ∙ ap (λ x. base + x) (value-scaled by e vs)
+    value-added (constant base) (scaled by e) vs ∙ ap (λ x. base + x) (value-scaled by e vs)
 simplified_keeps cs vs (Strided r s) e h none sound range =
     let d = divides cs vs range s e (omega (arith, h.1)) sound in
     value-with r (divided cs s e).rem (divided cs s e).quot vs ∙ ap₂ (λ x y. r * x + y) d.rem d.quot ∙ omega arith

@@ -2,9 +2,9 @@
 use Rattle.std.proofs.Common.{◌≡◌, ℕ, zero, suc, ◌+◌, ◌*◌, ◌/◌, ◌%◌, ◌^◌, ◌<◌, ◌≤◌, arith, ap, ap₂, ◌∙◌, mod-eq_of_lt}
 use Rattle.std.proofs.Common.{mul-le-mul_left}
 use Rattle.std.specs.Prelude.{max}
-use Rattle.perm_algebra.specs.Affine.{Sum, constant, variable, remainder, quotient, value, peak, scaled, joined}
+use Rattle.perm_algebra.specs.Affine.{Sum, constant, variable, remainder, quotient, value, peak, scaled, added}
 use Rattle.perm_algebra.specs.Fits.{IsAffine}
-use Rattle.perm_algebra.specs.Room.{constant_of, CanScale, CanJoin}
+use Rattle.perm_algebra.specs.Room.{constant_of, CanScale, CanAdd}
 use Rattle.perm_algebra.specs.Wrapped.{wrapped_multiple, raised, wrapped_sum}
 
 -- a factor that does not fit is that of a part that is always 0
@@ -71,13 +71,13 @@ affine_sum n cs (variable f d rest) e h g = (h.0, affine_sum n cs rest e h.1 g)
 affine_sum n cs (remainder f of m rest) e h g = (h.0, h.1, h.2, affine_sum n cs rest e h.3 g)
 affine_sum n cs (quotient f of m rest) e h g = (h.0, h.1, h.2, affine_sum n cs rest e h.3 g)
 
-raised-form : (c : ℕ) (e : Sum) → c + constant_of e < 2 ^ 64 → raised c e ≡ joined (constant c) e
+raised-form : (c : ℕ) (e : Sum) → c + constant_of e < 2 ^ 64 → raised c e ≡ added (constant c) e
 raised-form c (constant d) h = ap constant (mod-eq_of_lt h)
 raised-form c (variable f d rest) h = ap (λ r. variable f d r) (raised-form c rest h)
 raised-form c (remainder f of m rest) h = ap (λ r. remainder f of m r) (raised-form c rest h)
 raised-form c (quotient f of m rest) h = ap (λ r. quotient f of m r) (raised-form c rest h)
 
-pub sum_form : (a e : Sum) → CanJoin a e → wrapped_sum a e ≡ joined a e
+pub sum_form : (a e : Sum) → CanAdd a e → wrapped_sum a e ≡ added a e
 sum_form (constant c) e h = raised-form c e h
 sum_form (variable f d rest) e h = ap (λ r. variable f d r) (sum_form rest e h)
 sum_form (remainder f of m rest) e h = ap (λ r. remainder f of m r) (sum_form rest e h)

@@ -55,14 +55,14 @@ scaled k (variable f d rest) = variable (k * f) d (scaled k rest)
 scaled k (remainder f of m rest) = remainder (k * f) of m (scaled k rest)
 scaled k (quotient f of m rest) = quotient (k * f) of m (scaled k rest)
 
-abbrev pub joined : Sum → Sum → Sum
-joined (constant c) (constant d) = constant (c + d)
-joined (constant c) (variable f d rest) = variable f d (joined (constant c) rest)
-joined (constant c) (remainder f of m rest) = remainder f of m (joined (constant c) rest)
-joined (constant c) (quotient f of m rest) = quotient f of m (joined (constant c) rest)
-joined (variable f d rest) e = variable f d (joined rest e)
-joined (remainder f of m rest) e = remainder f of m (joined rest e)
-joined (quotient f of m rest) e = quotient f of m (joined rest e)
+abbrev pub added : Sum → Sum → Sum
+added (constant c) (constant d) = constant (c + d)
+added (constant c) (variable f d rest) = variable f d (added (constant c) rest)
+added (constant c) (remainder f of m rest) = remainder f of m (added (constant c) rest)
+added (constant c) (quotient f of m rest) = quotient f of m (added (constant c) rest)
+added (variable f d rest) e = variable f d (added rest e)
+added (remainder f of m rest) e = remainder f of m (added rest e)
+added (quotient f of m rest) e = quotient f of m (added rest e)
 
 -- the parts whose factors s divides, divided by it, and the other parts
 abbrev pub head : ℕ → Sum → Sum
@@ -89,7 +89,7 @@ divided counts s e =
 
 -- the index of L(r * s, r) at e
 abbrev pub turned : (ℕ → ℕ) → ℕ → ℕ → Sum → Sum
-turned counts r s e = joined (scaled r (divided counts s e).rem) (divided counts s e).quot
+turned counts r s e = added (scaled r (divided counts s e).rem) (divided counts s e).quot
 
 -- the greatest constant or factor at the outer level
 abbrev pub peak : Sum → ℕ
@@ -134,16 +134,16 @@ pub record Fits (size : ℕ) (e : Sum) (cs : ℕ → ℕ) : Type 0 where
 abbrev pub simplified : (ℕ → ℕ) → Mapping → Sum → Sum
 simplified cs Same e = e
 simplified cs (Always v) e = constant v
-simplified cs (Line base by) e = joined (constant base) (scaled by e)
+simplified cs (Line base by) e = added (constant base) (scaled by e)
 simplified cs (Strided r s) e = turned cs r s e
 simplified cs (ThomasIn r s) e =
-    reduced cs (r * s) (joined (scaled s (divided cs s e).quot) (scaled r (divided cs s e).rem))
-simplified cs (ThomasOut r s) e = joined (scaled s (divided cs r e).rem) (divided cs s e).rem
+    reduced cs (r * s) (added (scaled s (divided cs s e).quot) (scaled r (divided cs s e).rem))
+simplified cs (ThomasOut r s) e = added (scaled s (divided cs r e).rem) (divided cs s e).rem
 simplified cs (ThomasBack r s u v) e =
-    reduced cs (r * s) (joined (scaled u (divided cs s e).quot) (scaled v (divided cs s e).rem))
+    reduced cs (r * s) (added (scaled u (divided cs s e).quot) (scaled v (divided cs s e).rem))
 simplified cs (Listed ks) e = constant 0
 simplified cs (Paired f c g d) e =
-    joined (scaled c (simplified cs f (divided cs d e).quot)) (simplified cs g (divided cs d e).rem)
+    added (scaled c (simplified cs f (divided cs d e).quot)) (simplified cs g (divided cs d e).rem)
 simplified cs (After f g) e = simplified cs f (simplified cs g e)
 
 -- a function with no explicit list

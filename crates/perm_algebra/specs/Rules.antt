@@ -1,15 +1,15 @@
 -- The steps of simplification, each with its law.
 use Rattle.std.specs.Prelude.{◌≡◌, ℕ, ◌+◌, ◌*◌, ◌/◌, ◌%◌, ◌<◌}
 use Rattle.index_fn.specs.Mapping.{Mapping, Paired, After, at}
-use Rattle.perm_algebra.specs.Affine.{Sum, constant, remainder, quotient, value, top, scaled, joined, head, rest_of}
+use Rattle.perm_algebra.specs.Affine.{Sum, constant, remainder, quotient, value, top, scaled, added, head, rest_of}
 use Rattle.perm_algebra.specs.Affine.{mods, IsSound, AreBelowCounts}
 use Rattle.perm_algebra.specs.declared.IndexRule.{IndexRule}
-use Rattle.perm_algebra.specs.declared.IndexRule.TheVariants.{Scale, Join, TakeMultiples, ReadOff, WriteOut}
+use Rattle.perm_algebra.specs.declared.IndexRule.TheVariants.{Scale, Add, TakeMultiples, ReadOff, WriteOut}
 use Rattle.perm_algebra.specs.declared.IndexRule.TheVariants.{ReduceFactors, DropRemainder, SplitTensor, NestComposed}
 
 abbrev pub Holds : IndexRule → Type 0
 Holds Scale = (k : ℕ) (e : Sum) (vs : ℕ → ℕ) → value (scaled k e) vs ≡ k * value e vs
-Holds Join = (a e : Sum) (vs : ℕ → ℕ) → value (joined a e) vs ≡ value a vs + value e vs
+Holds Add = (a e : Sum) (vs : ℕ → ℕ) → value (added a e) vs ≡ value a vs + value e vs
 Holds TakeMultiples = (s : ℕ) (e : Sum) (vs : ℕ → ℕ) → value e vs ≡ s * value (head s e) vs + value (rest_of s e) vs
 Holds ReadOff =
     (cs vs : ℕ → ℕ) (s : ℕ) (e : Sum) → IsSound e → AreBelowCounts vs cs → top (rest_of s e) cs < s →

@@ -1,7 +1,7 @@
 -- What simplification adds to a sum that a divisor takes apart.
 use Rattle.std.specs.Prelude.{◌≡◌, ℕ, ◌+◌, ◌*◌, ◌<◌, ◌≤◌, ◌⊎◌}
 use Rattle.index_fn.specs.Mapping.{Mapping, Strided, ThomasIn, ThomasBack, Paired}
-use Rattle.perm_algebra.specs.Affine.{Sum, constant, variable, remainder, quotient, top, scaled, joined, head, rest_of}
+use Rattle.perm_algebra.specs.Affine.{Sum, constant, variable, remainder, quotient, top, scaled, added, head, rest_of}
 use Rattle.perm_algebra.specs.Affine.{simplified, AreBelow}
 
 -- q for each quotient and r for each remainder, at all levels
@@ -30,11 +30,11 @@ pub record KeepsShape (cs : ℕ → ℕ) (r s : ℕ) (e : Sum) : Type 0 where
       AddsRemainders 1 e (simplified cs (ThomasBack r s u v) e)
       × IsModulo (r * s) (simplified cs (ThomasBack r s u v) e)
   pub tensor : (f : Mapping) (c : ℕ) (g : Mapping) →
-      simplified cs (Paired f c g s) e ≡ joined (scaled c (simplified cs f (head s e))) (simplified cs g (rest_of s e))
+      simplified cs (Paired f c g s) e ≡ added (scaled c (simplified cs f (head s e))) (simplified cs g (rest_of s e))
 
 -- A multiple of s and a rest that stays below s: a stride permutation and a tensor add no quotient and no remainder,
 -- the places before a step by the factors r and s, and back from it, add at most one remainder
 abbrev pub ShapeKept : Type 0
 ShapeKept =
     (cs : ℕ → ℕ) (r s : ℕ) (a rest : Sum) → 0 < r → 0 < s → top rest cs < s →
-    KeepsShape cs r s (joined (scaled s a) rest)
+    KeepsShape cs r s (added (scaled s a) rest)

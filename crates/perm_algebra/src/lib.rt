@@ -185,7 +185,7 @@ pub enum IndexRule {
     /// A multiple of a sum multiplies its constant and its factors.
     Scale,
     /// The sum of two sums has the parts of both.
-    Join,
+    Add,
     /// The parts whose factors a divisor divides are a multiple of it.
     TakeMultiples,
     /// Where the other parts stay below the divisor, they are the remainder, and what is multiplied is the quotient.

@@ -1,7 +1,7 @@
 ghost use Rattle.std.specs.Prelude.{◌≡◌, ℕ, ◌+◌, ◌*◌, ◌^◌, ◌<◌, List, IfOk};
-ghost use Rattle.perm_algebra.specs.Affine.{scaled, joined, value};
+ghost use Rattle.perm_algebra.specs.Affine.{scaled, added, value};
 ghost use Rattle.perm_algebra.specs.Contract.{IsSumOver};
-ghost use Rattle.perm_algebra.specs.Room.{CanScale, CanJoin};
+ghost use Rattle.perm_algebra.specs.Room.{CanScale, CanAdd};
 ghost use Rattle.perm_algebra.specs.Views.{plain_sum};
 ghost use Rattle.perm_algebra.specs.Wrapped.{raised, wrapped_multiple, wrapped_sum};
 
@@ -72,8 +72,8 @@ pub fn both(a: Affine, b: Affine) -> Affine
         → value (plain_sum result) vs ≡ value (plain_sum a) vs + value (plain_sum b) vs }
     ensures affine { (counts : List ℕ) → IsSumOver counts a → IsSumOver counts b
         → IsSumOver counts result }
-    ensures form { CanJoin (plain_sum a) (plain_sum b)
-        → plain_sum result ≡ joined (plain_sum a) (plain_sum b) }
+    ensures form { CanAdd (plain_sum a) (plain_sum b)
+        → plain_sum result ≡ added (plain_sum a) (plain_sum b) }
 {
     let mut both = a;
     append(&mut both, b);

@@ -16,7 +16,7 @@ use Rattle.plan_cert.specs.Certificate.{cost_at, IsClosedLeast}
 use Rattle.plan_cert.specs.Document.{document_rows}
 use Rattle.plan_cert.specs.Laws.{RightCostsAreLeast}
 use Rattle.plan_cert.specs.Table.{AreTables, IsListOfTables, IsTableOf, IsTableText, IsWholeTable}
-use Rattle.plan_cert.specs.Verdict.{joined, size_of_all, IsItemsVerdict, IsListVerdict, IsValueVerdict, IsVerdict}
+use Rattle.plan_cert.specs.Verdict.{combined, size_of_all, IsItemsVerdict, IsListVerdict, IsValueVerdict, IsVerdict}
 use Rattle.plan_cert.specs.Verdict.{IsWholeVerdict}
 use Rattle.plan_cert.proofs.ByParts.{by_parts, one_part, size_of_rest}
 use Rattle.plan_cert.proofs.Least.{least_of_right}
@@ -84,8 +84,8 @@ both_right c range some divides others (item x xs) h =
     let rest = others xs h.1 in
     let n = (first_of c).size in
     let whole = (rest_of c).size * here.0 + n * rest.0 in
-    let verdict : Least whole ≡ joined n (size_of_all (parts_of (rest_of c))) (Least here.0) (Least rest.0) =
-    ap (λ s. joined n s (Least here.0) (Least rest.0)) (sym (size_of_rest c some)) in (
+    let verdict : Least whole ≡ combined n (size_of_all (parts_of (rest_of c))) (Least here.0) (Least rest.0) =
+    ap (λ s. combined n s (Least here.0) (Least rest.0)) (sym (size_of_rest c some)) in (
       whole,
       (Least here.0, Least rest.0, here.1, rest.1, verdict),
       (least_of_parts c whole range some divides).1 (here.0, rest.0, here.2, rest.2, refl),

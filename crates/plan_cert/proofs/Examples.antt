@@ -11,7 +11,7 @@ use Rattle.serde_json.specs.Written.{compact_text}
 use Rattle.plan_cert.specs.declared.certificate.Row.{Row}
 use Rattle.plan_cert.specs.declared.verdict.Verdict.TheVariants.{Least}
 use Rattle.plan_cert.specs.Table.{table_data}
-use Rattle.plan_cert.specs.Verdict.{joined, size_of_all}
+use Rattle.plan_cert.specs.Verdict.{combined, size_of_all}
 
 abbrev request : Request
 request = record {
@@ -44,5 +44,5 @@ unfolding digits escape_byte
 spelled = refl
 
 -- each dimension costs 2 in each of two places, so both cost 8
-judged : joined 2 2 (Least 2) (joined 2 (size_of_all []) (Least 2) (Least 0)) ≡ Least 8
+judged : combined 2 2 (Least 2) (combined 2 (size_of_all []) (Least 2) (Least 0)) ≡ Least 8
 judged = refl

@@ -8,7 +8,7 @@ use Rattle.matrix_meaning.specs.Parts.{first_of, parts_of, rest_of}
 use Rattle.matrix_meaning.specs.Valid.{IsInRange}
 use Rattle.matrix_meaning.proofs.Parts.{first_at_least_two, parts_by_first, parts_size, rest_at_least_two}
 use Rattle.serde_json.specs.Data.{Items, no_items, item}
-use Rattle.serde_json.specs.View.{items_view, view}
+use Rattle.serde_json.specs.Views.{items_view, view}
 use Rattle.serde_json.specs.declared.value.Value.{Value}
 use Rattle.tree_model.specs.Chosen.{CanDivideWhole, IsWholeLeast}
 use Rattle.tree_model.proofs.ChosenParts.{least_of_parts}
@@ -16,7 +16,7 @@ use Rattle.tree_model.proofs.CostBounds.{sum_le_product}
 use Rattle.plan_cert.specs.declared.verdict.Verdict.{Verdict}
 use Rattle.plan_cert.specs.declared.verdict.Verdict.TheVariants.{Least, Unread, Wrong}
 use Rattle.plan_cert.specs.Certificate.{IsSmall}
-use Rattle.plan_cert.specs.Verdict.{joined, IsItemsVerdict, IsValueVerdict}
+use Rattle.plan_cert.specs.Verdict.{combined, IsItemsVerdict, IsValueVerdict}
 use Rattle.plan_cert.proofs.ByParts.{size_of_rest}
 
 -- ---- verdicts
@@ -26,15 +26,15 @@ pub too_many : (vs : List Value) → false ≡ (length vs == 0) → IsItemsVerdi
 too_many [] e = absurd (cc)
 too_many (v ∷ vs) e = refl
 
-pub joined_sizes : (p q r s : Request) (a b whole : Verdict) → r ≡ p → s ≡ q → whole ≡ joined r.size s.size a b
-    → whole ≡ joined p.size q.size a b
-joined_sizes p q r s a b whole r_is s_is e =
-    e ∙ ap₂ (λ (x y : Request). joined x.size y.size a b) r_is s_is
+pub combined_sizes : (p q r s : Request) (a b whole : Verdict) → r ≡ p → s ≡ q → whole ≡ combined r.size s.size a b
+    → whole ≡ combined p.size q.size a b
+combined_sizes p q r s a b whole r_is s_is e =
+    e ∙ ap₂ (λ (x y : Request). combined x.size y.size a b) r_is s_is
 
 module _ (c p q : Request) (some : c.dimensions ≢ One) (p_is : p ≡ first_of c) (q_is : q ≡ rest_of c) where
   pub verdict_of_both : (vs : List Value) (v : Value) (rest : List Value) (a b whole : Verdict) → vs ≡ v ∷ rest
       → IsValueVerdict p (view v) a → IsItemsVerdict (parts_of q) (items_view rest) b
-      → whole ≡ joined p.size q.size a b
+      → whole ≡ combined p.size q.size a b
       → IsItemsVerdict (parts_of c) (items_view vs) whole
   verdict_of_both vs v rest a b whole e first others is =
       let here : IsValueVerdict (first_of c) (view v) a =
@@ -42,7 +42,7 @@ module _ (c p q : Request) (some : c.dimensions ≢ One) (p_is : p ≡ first_of 
       let there : IsItemsVerdict (parts_of (rest_of c)) (items_view rest) b =
       subst (λ (r : Request). IsItemsVerdict (parts_of r) (items_view rest) b) q_is others in
       let sizes =
-      ap₂ (λ n s. joined n s a b) (ap (λ (r : Request). r.size) p_is)
+      ap₂ (λ n s. combined n s a b) (ap (λ (r : Request). r.size) p_is)
       (ap (λ (r : Request). r.size) q_is ∙ sym (size_of_rest c some)) in
       subst (λ (ps : List Request). IsItemsVerdict ps (items_view vs) whole) (sym (parts_by_first c some))
       (subst (λ (ws : List Value). IsItemsVerdict (first_of c ∷ parts_of (rest_of c)) (items_view ws) whole) (sym e)
@@ -51,7 +51,7 @@ module _ (c p q : Request) (some : c.dimensions ≢ One) (p_is : p ≡ first_of 
 -- ---- least costs
 
 -- the verdict on the whole is a least cost where both are
-both_least : (n s : ℕ) (a b : Verdict) (k : ℕ) → joined n s a b ≡ Least k
+both_least : (n s : ℕ) (a b : Verdict) (k : ℕ) → combined n s a b ≡ Least k
     → (x y : ℕ) × (a ≡ Least x) × (b ≡ Least y) × (k ≡ s * x + n * y)
 both_least n s Unread b k e = absurd (cc)
 both_least n s (Least x) Unread k e = absurd (cc)
@@ -67,7 +67,7 @@ nothing_least no_items v y h e = let same : Least 0 ≡ Least y = sym h ∙ e in
 nothing_least (item x xs) v y h e = let same : Unread ≡ Least y = sym h ∙ e in absurd (cc)
 
 -- the cost of the last dimension is that of the list of its one certificate
-pub last_cost : (n : ℕ) (xs : Items) (a b whole : Verdict) (k : ℕ) → IsItemsVerdict [] xs b → whole ≡ joined n 1 a b
+pub last_cost : (n : ℕ) (xs : Items) (a b whole : Verdict) (k : ℕ) → IsItemsVerdict [] xs b → whole ≡ combined n 1 a b
     → whole ≡ Least k → a ≡ Least k
 last_cost n xs a b whole k others is e =
     let both = both_least n 1 a b k (sym is ∙ e) in
@@ -115,7 +115,7 @@ module _ (c p q : Request) (range : IsInRange c) (some : c.dimensions ≢ One) (
         small_fits c.size (q.size * x + p.size * y) range.size.1
         (whole_small x y (first_small x is_a) (others_small y is_b))
 
-    pub small_of_both : (whole : Verdict) (k : ℕ) → whole ≡ joined p.size q.size a b → whole ≡ Least k
+    pub small_of_both : (whole : Verdict) (k : ℕ) → whole ≡ combined p.size q.size a b → whole ≡ Least k
         → IsSmall c.size k
     small_of_both whole k is e =
         let both = both_least p.size q.size a b k (sym is ∙ e) in
@@ -125,7 +125,7 @@ module _ (c p q : Request) (range : IsInRange c) (some : c.dimensions ≢ One) (
   module _ (divides : CanDivideWhole c) where
     pub least_of_both : (a b whole : Verdict) → ((x : ℕ) → a ≡ Least x → IsWholeLeast p x)
         → ((y : ℕ) → b ≡ Least y → IsWholeLeast q y)
-        → (k : ℕ) → whole ≡ joined p.size q.size a b → whole ≡ Least k → IsWholeLeast c k
+        → (k : ℕ) → whole ≡ combined p.size q.size a b → whole ≡ Least k → IsWholeLeast c k
     least_of_both a b whole first others k is e =
         let both = both_least p.size q.size a b k (sym is ∙ e) in
         let here : IsWholeLeast (first_of c) both.0 =

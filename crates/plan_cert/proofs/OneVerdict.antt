@@ -17,7 +17,7 @@ use Rattle.plan_cert.specs.Found.{closing_at, IsFound, IsRowCost}
 use Rattle.plan_cert.specs.Certificate.{cost_at, IsRightRow, IsWrong, HasFirstWrong}
 use Rattle.plan_cert.specs.Document.{IsCertificate, IsJson}
 use Rattle.plan_cert.specs.Laws.{VerdictsAreOne}
-use Rattle.plan_cert.specs.Verdict.{joined, size_of_all, IsItemsVerdict, IsOptionVerdict, IsRightCertificate}
+use Rattle.plan_cert.specs.Verdict.{combined, size_of_all, IsItemsVerdict, IsOptionVerdict, IsRightCertificate}
 use Rattle.plan_cert.specs.Verdict.{IsTextVerdict, IsValueVerdict, IsWholeVerdict, IsWrongCertificate}
 use Rattle.plan_cert.proofs.RightRows.{blank}
 
@@ -138,7 +138,7 @@ items_verdict [] no_items v w e f = e ∙ sym f
 items_verdict [] (item x xs) v w e f = e ∙ sym f
 items_verdict (p ∷ ps) no_items v w e f = e ∙ sym f
 items_verdict (p ∷ ps) (item x xs) v w (a, b, h, k, e) (a', b', h', k', f) =
-    e ∙ ap₂ (joined p.size (size_of_all ps)) (value_verdict p x a a' h h') (items_verdict ps xs b b' k k') ∙ sym f
+    e ∙ ap₂ (combined p.size (size_of_all ps)) (value_verdict p x a a' h h') (items_verdict ps xs b b' k k') ∙ sym f
 
 option_verdict : (ps : List Request) (o : Option Items) (v w : Verdict) → IsOptionVerdict ps o v
     → IsOptionVerdict ps o w → v ≡ w

@@ -31,7 +31,7 @@ use Rattle.plan_cert.specs.Document.{IsCertificate, IsJson, document_rows}
 use Rattle.plan_cert.specs.Found.{IsChoiceCost, IsFound, IsRowCost, closing_at}
 use Rattle.plan_cert.specs.Laws.{VerdictsExist}
 use Rattle.plan_cert.specs.Verdict.{IsItemsVerdict, IsOptionVerdict, IsTextVerdict, IsValueVerdict, IsWholeVerdict}
-use Rattle.plan_cert.specs.Verdict.{joined, size_of_all}
+use Rattle.plan_cert.specs.Verdict.{combined, size_of_all}
 use Rattle.plan_cert.proofs.ByParts.{by_parts, one_part}
 use Rattle.plan_cert.proofs.Choices.{best_rule_bound, found_all, found_more, found_skip, no_rule_bound}
 use Rattle.plan_cert.proofs.Decided.{decided_rows}
@@ -225,7 +225,7 @@ one_more p ps low others no_items = (Unread, refl)
 one_more p ps low others (item x xs) =
     let here = some_value p x low in
     let rest = others xs in
-    (joined p.size (size_of_all ps) here.0 rest.0, (here.0, rest.0, here.1, rest.1, refl))
+    (combined p.size (size_of_all ps) here.0 rest.0, (here.0, rest.0, here.1, rest.1, refl))
 
 some_items : (c : Request) → IsInRange c → SomeItems (parts_of c)
 some_items =

@@ -40,12 +40,12 @@ IsValueVerdict c d (Wrong size given found) =
 -- The verdict on a dimension of size r and others of size s, by the verdicts on each: all are to be read, then the
 -- first wrong
 -- row counts, and else the sum of the least costs, each for all places of the other
-abbrev pub joined : ℕ → ℕ → Verdict → Verdict → Verdict
-joined r s Unread v = Unread
-joined r s u Unread = Unread
-joined r s (Wrong size given found) v = Wrong size given found
-joined r s (Least x) (Wrong size given found) = Wrong size given found
-joined r s (Least x) (Least y) = Least (s * x + r * y)
+abbrev pub combined : ℕ → ℕ → Verdict → Verdict → Verdict
+combined r s Unread v = Unread
+combined r s u Unread = Unread
+combined r s (Wrong size given found) v = Wrong size given found
+combined r s (Least x) (Wrong size given found) = Wrong size given found
+combined r s (Least x) (Least y) = Least (s * x + r * y)
 
 -- the product of the sizes
 abbrev pub size_of_all : List Request → ℕ
@@ -55,7 +55,7 @@ size_of_all ps = product_of (map (λ (p : Request). p.size) ps)
 abbrev pub IsItemsVerdict : List Request → Items → Verdict → Type 0
 IsItemsVerdict [] no_items v = v ≡ Least 0
 IsItemsVerdict (p ∷ ps) (item x xs) v =
-    (a b : Verdict) × IsValueVerdict p x a × IsItemsVerdict ps xs b × (v ≡ joined p.size (size_of_all ps) a b)
+    (a b : Verdict) × IsValueVerdict p x a × IsItemsVerdict ps xs b × (v ≡ combined p.size (size_of_all ps) a b)
 IsItemsVerdict ps xs v = v ≡ Unread
 
 -- the same where there may be no list

@@ -11,7 +11,7 @@ use crate::rows::is_wanted;
 use matrix_meaning::Kind;
 use memory::NoMemory;
 use operators::MAX_SIZE;
-use plan_search::{Plan, Row as Planned, best_row};
+use plan_search::{Plan, TableRow as Planned, best_row};
 use std::alloc::Global;
 use tree_model::{Ctx, Rule, Tree};
 

@@ -1,10 +1,10 @@
 // What is to be said of a certificate.
 ghost use Rattle.std.specs.Prelude.{◌≡◌, ◌≢◌, ℕ, ◌+◌, ◌*◌, ◌^◌, ◌<◌, ◌≤◌, IfOk, []};
-ghost use Rattle.serde_json.specs.View.{items_view, view};
+ghost use Rattle.serde_json.specs.Views.{items_view, view};
 ghost use Rattle.matrix_meaning.specs.Parts.{parts_of};
 ghost use Rattle.tree_model.specs.Chosen.{CanDivideWhole, IsWholeLeast};
 ghost use Rattle.plan_cert.specs.Certificate.{IsSmall};
-ghost use Rattle.plan_cert.specs.Verdict.{joined, IsItemsVerdict, IsListVerdict, IsValueVerdict, IsVerdict, IsWholeVerdict};
+ghost use Rattle.plan_cert.specs.Verdict.{combined, IsItemsVerdict, IsListVerdict, IsValueVerdict, IsVerdict, IsWholeVerdict};
 ghost use Rattle.plan_cert.specs.declared.verdict.Verdict.TheVariants.{Least};
 
 use crate::certificate::{WrongRow, check_rows};
@@ -83,14 +83,14 @@ fn check_values(alloc: Global, c: &Ctx, values: &[Value]) -> Result<Verdict, NoM
     match c.parts() {
         None => {
             let a = check_value(alloc, c, value)?;
-            Ok(joined(request.size, 1, a, no_more(rest)))
+            Ok(combined(request.size, 1, a, no_more(rest)))
         }
         Some((first, others)) => {
             let r = first.request().size;
             let s = others.request().size;
             let a = check_value(alloc, &first, value)?;
             let b = check_values(alloc, &others, rest)?;
-            Ok(joined(r, s, a, b))
+            Ok(combined(r, s, a, b))
         }
     }
 }
@@ -107,9 +107,9 @@ fn no_more(values: &[Value]) -> Verdict
 }
 
 // The verdict on a dimension of size `r` and others of size `s`, by those on each.
-fn joined(r: u64, s: u64, first: Verdict, others: Verdict) -> Verdict
+fn combined(r: u64, s: u64, first: Verdict, others: Verdict) -> Verdict
     requires { (x y : ℕ) → first ≡ Least x → others ≡ Least y → s * x + r * y < 2 ^ 64 }
-    ensures { result ≡ joined r s first others }
+    ensures { result ≡ combined r s first others }
 {
     match (first, others) {
         (Verdict::Unread, _) | (_, Verdict::Unread) => Verdict::Unread,

@@ -13,7 +13,7 @@ use tree_model::Ctx;
 
 /// The best plan for a node of this size, if there is a tree for it.
 #[derive(Drop)]
-pub struct Row {
+pub struct TableRow {
     pub size: u64,
     pub plan: Option<Plan>,
 }
@@ -34,7 +34,7 @@ fn copied(alloc: Global, plan: &Option<Plan>) -> Result<Option<Plan>, NoMemory>
 }
 
 /// The plan in the row of this size.
-fn plan_of(alloc: Global, c: &Ctx, rows: &[Row], size: u64) -> Result<Option<Plan>, NoMemory>
+fn plan_of(alloc: Global, c: &Ctx, rows: &[TableRow], size: u64) -> Result<Option<Plan>, NoMemory>
     requires rows { All (IsRow c.now) rows.now }
     requires present { Any (λ row. row.size ≡ size) rows.now }
     ensures { IfOk result (IsBestOf c.now size AnyTree) }
@@ -48,7 +48,7 @@ fn plan_of(alloc: Global, c: &Ctx, rows: &[Row], size: u64) -> Result<Option<Pla
 }
 
 /// The best plan for a node of size `d`, if there is a tree for it, from the rows of smaller sizes.
-pub fn best_row(alloc: Global, c: &Ctx, rows: &[Row], d: u64) -> Result<Option<Plan>, NoMemory>
+pub fn best_row(alloc: Global, c: &Ctx, rows: &[TableRow], d: u64) -> Result<Option<Plan>, NoMemory>
     requires low { 1 ≤ d }
     requires high { d ≤ c.now.size }
     requires divisor { c.now.size % d ≡ 0 }
@@ -78,7 +78,7 @@ pub(crate) fn best_whole(alloc: Global, c: &Ctx) -> Result<Option<Plan>, NoMemor
     for d in 1..size {
         if size % d == 0 {
             let plan = best_row(alloc, c, &rows, d)?;
-            rows.push(Row { size: d, plan })?;
+            rows.push(TableRow { size: d, plan })?;
         }
     }
     best_row(alloc, c, &rows, size)

@@ -3,7 +3,7 @@
 
 ghost use Rattle.std.specs.Prelude.{◌≡◌, ◌+◌, ◌^◌, ◌<◌, ◌≤◌, IfOk, OnOk};
 ghost use Rattle.renumbered_registers.specs.Renumbered.{no_numbers, put, put_all, are_consecutive};
-ghost use Rattle.renumbered_registers.specs.View.{plain_numbering};
+ghost use Rattle.renumbered_registers.specs.Views.{plain_numbering};
 
 use memory::NoMemory;
 use std::alloc::Global;

@@ -5,7 +5,7 @@ ghost use Rattle.std.specs.Prelude.{◌≡◌, ◌^◌, ◌<◌, ℕ, Some, None
 ghost use Rattle.icode.specs.Plain.{Tile, plain_op};
 ghost use Rattle.nests.specs.Rounds.{put_after};
 ghost use Rattle.renumbered_registers.specs.Renumbered.{tile_from, with_sources, with_put, numbered_op, after_op};
-ghost use Rattle.renumbered_registers.specs.View.{plain_numbering};
+ghost use Rattle.renumbered_registers.specs.Views.{plain_numbering};
 
 use crate::numbering::Numbering;
 use icode::program::Op;

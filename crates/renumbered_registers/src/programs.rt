@@ -8,7 +8,7 @@ ghost use Rattle.renumbered_registers.specs.Renumbered.{no_numbers, most_put, re
 ghost use Rattle.renumbered_registers.specs.Renumbered.{numbered_stmt, numbered_body, numbered_phases, with_numbers};
 ghost use Rattle.renumbered_registers.specs.Renumbered.{renumbered};
 ghost use Rattle.renumbered_registers.specs.Laws.{RenumberedLeavesTheSame, InOrderStays};
-ghost use Rattle.renumbered_registers.specs.View.{plain_numbering, body_made, phases_made};
+ghost use Rattle.renumbered_registers.specs.Views.{plain_numbering, body_made, phases_made};
 
 use crate::numbering::Numbering;
 use crate::operations::numbered_op;

@@ -26,7 +26,7 @@ use Rattle.sigma_lower.specs.TreeTerms.Term.{lowered_after}
 use Rattle.sigma_lower.proofs.TreeTerms.Goods.{vec_good, phases_good}
 use Rattle.vec_rewrite.specs.Vectors.{tiles}
 use Rattle.sigma_lower.specs.TreeTerms.Term as lowered
-use Rattle.smp_rewrite.specs.LayoutSteps.Step as steps
+use Rattle.smp_rewrite.specs.Layout.Step as steps
 
 -- ---- numbers
 

@@ -12,8 +12,8 @@ use Rattle.std.proofs.Math.Nat.{zero-div}
 use Rattle.sigma_spl.specs.Term.{PlainTerm}
 use Rattle.sigma_lower.specs.Merged.{phase_costs}
 use Rattle.smp_rewrite.specs.Laws.{HasEqualParts, IsPermutation}
-use Rattle.smp_rewrite.specs.LayoutSteps.Whole.{Whole, closing_cost}
-use Rattle.smp_rewrite.specs.LayoutSteps.Step.{core_cost}
+use Rattle.smp_rewrite.specs.Layout.Whole.{Whole, closing_cost}
+use Rattle.smp_rewrite.specs.Layout.Step.{core_cost}
 use Rattle.tree_model.proofs.Splits.{product_div}
 use Rattle.vec_rewrite.specs.Vectors.{tiles, share_of, shares_in, vec_shares}
 use Rattle.vec_rewrite.proofs.LaneShares.{shares_in-append}

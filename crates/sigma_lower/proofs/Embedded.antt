@@ -19,7 +19,7 @@ use Rattle.sigma_lower.proofs.TreeTerms.Permuted.{gather-under}
 use Rattle.vec_rewrite.specs.Vectors.{tiles}
 use Rattle.std.proofs.lemmas.Nat.{mod-mul-add}
 use Rattle.sigma_lower.specs.TreeTerms.Term as lowered
-use Rattle.smp_rewrite.specs.LayoutSteps.Step as steps
+use Rattle.smp_rewrite.specs.Layout.Step as steps
 
 -- ---- permutations under tensors move whole vectors, where the first columns are a multiple of the lanes
 

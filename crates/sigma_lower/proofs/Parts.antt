@@ -16,9 +16,9 @@ use Rattle.sigma_spl.specs.Term.{PlainTerm, nest, move, diag}
 use Rattle.sigma_spl.proofs.Natural.{at-natural}
 use Rattle.sigma_spl.proofs.Limited.{below-all}
 use Rattle.sigma_lower.proofs.TreeTerms.Permuted.{scale-under}
-use Rattle.operators.specs.TensorPaths.Path.{one_under, Reads, local}
-use Rattle.operators.proofs.TensorPaths.PathPlaces.{at-under}
-use Rattle.operators.proofs.TensorPaths.Under.{under-product}
+use Rattle.operators.specs.Paths.Tensors.{one_under, Reads, local}
+use Rattle.operators.proofs.Paths.PathPlaces.{at-under}
+use Rattle.operators.proofs.Paths.Under.{under-product}
 
 -- a good term that does to a vector what an operator does
 pub record Lowers (m n : ℕ) (t : PlainTerm) (a : Operator) : Type 0 where

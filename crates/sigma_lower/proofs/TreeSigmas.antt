@@ -6,7 +6,7 @@ pub mod Known
 pub mod Ready
 pub mod Owned
 pub mod Bounds
-pub mod Few
+pub mod PassCounts
 pub mod Counting
 pub mod Endings
 pub mod Lasts

@@ -20,7 +20,7 @@ use Rattle.tree_model.specs.Breakdown.{size_of}
 use Rattle.smp_rewrite.proofs.Tensors.{reads-one_under}
 use Rattle.sigma_lower.proofs.TreeTerms.Permuted.{gather-under}
 use Rattle.sigma_spl.specs.Nest as nests
-use Rattle.smp_rewrite.specs.LayoutSteps.Step as steps
+use Rattle.smp_rewrite.specs.Layout.Step as steps
 
 -- ---- works
 

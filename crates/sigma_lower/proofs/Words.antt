@@ -31,16 +31,16 @@ pub use Rattle.index_fn.specs.Mapping.{Always, Mapping, Paired, Same, Strided, T
 pub use Rattle.operators.proofs.Lists.{at-list_below, column-of, factor_positive, length-list_below, list_below-same}
 pub use Rattle.operators.proofs.Lists.{place_below, row-of}
 pub use Rattle.operators.proofs.Places.{stride_below}
-pub use Rattle.operators.proofs.TensorPaths.PathPlaces.{place-below}
-pub use Rattle.operators.proofs.TensorPaths.Under.{copies_of-push, size_under-copies, size_under-push, under-push}
-pub use Rattle.operators.proofs.TensorPaths.Under.{under-size}
+pub use Rattle.operators.proofs.Paths.PathPlaces.{place-below}
+pub use Rattle.operators.proofs.Paths.Under.{copies_of-push, size_under-copies, size_under-push, under-push}
+pub use Rattle.operators.proofs.Paths.Under.{under-size}
 pub use Rattle.operators.specs.Loop.{IsPermutationBelow}
 pub use Rattle.operators.specs.Operator.{Operator, block, column, gather, on_blocks, on_columns, scale, stride}
 pub use Rattle.operators.specs.Sum.{list_below}
-pub use Rattle.operators.specs.TensorPaths.Path.{AreInRange, Path, copies_of, count_of, grown, place, size_under, under}
+pub use Rattle.operators.specs.Paths.Tensors.{AreInRange, Path, copies_of, count_of, grown, place, size_under, under}
 pub use Rattle.operators.specs.declared.target.Target.{Target}
-pub use Rattle.operators.specs.declared.tensor_paths.Tensor.{Tensor}
-pub use Rattle.operators.specs.declared.tensor_paths.Tensor.TheVariants.{Blocks, Columns}
+pub use Rattle.operators.specs.declared.paths.Tensor.{Tensor}
+pub use Rattle.operators.specs.declared.paths.Tensor.TheVariants.{Blocks, Columns}
 pub use Rattle.tree_model.proofs.PassLaws.{root_no_kernel}
 pub use Rattle.tree_model.specs.Breakdown.{AllowsLeaf, Breakdown, leaf, node}
 pub use Rattle.tree_model.specs.Chosen.{IsWholeTree}
@@ -51,14 +51,14 @@ pub use Rattle.tree_model.specs.WholePasses.{RequestPass, closed_by, cost_of_pas
 pub use Rattle.tree_model.specs.WholePasses.{request_passes}
 pub use Rattle.tree_model.specs.declared.tree.Rule.{Rule}
 pub use Rattle.tree_model.specs.declared.tree.Rule.TheVariants.{Ct, Dim, Gt, Split}
-pub use Rattle.perm_algebra.proofs.AffineLaws.{top-joined, top-scaled}
+pub use Rattle.perm_algebra.proofs.AffineLaws.{top-added, top-scaled}
 pub use Rattle.perm_algebra.proofs.Reduced.{mods-proper}
-pub use Rattle.perm_algebra.proofs.Shape.{divided-joined, joined-zero, turned-joined}
-pub use Rattle.perm_algebra.proofs.Sizes.{joined-end, parts-joined, parts-scaled, positive-product, proper-joined}
+pub use Rattle.perm_algebra.proofs.Shape.{divided-added, added-zero, turned-added}
+pub use Rattle.perm_algebra.proofs.Sizes.{added-end, parts-added, parts-scaled, positive-product, proper-added}
 pub use Rattle.perm_algebra.proofs.Sizes.{proper-scaled, scaled-one}
-pub use Rattle.perm_algebra.specs.Affine.{Divided, IsProper, Sum, constant, joined, mods, parts, quotient, reduced}
+pub use Rattle.perm_algebra.specs.Affine.{Divided, IsProper, Sum, constant, added, mods, parts, quotient, reduced}
 pub use Rattle.perm_algebra.specs.Affine.{remainder, scaled, simplified, top, value, variable}
-pub use Rattle.perm_algebra.specs.Room.{CanJoin, HasRoomFor}
+pub use Rattle.perm_algebra.specs.Room.{CanAdd, HasRoomFor}
 pub use Rattle.spl_ast.proofs.Vectors.{shaped_size, size_is_size}
 pub use Rattle.spl_ast.specs.Formula.{Diagonal, DirectSum, Formula, Fourier, GoodThomasIn, GoodThomasOut, Hadamard}
 pub use Rattle.spl_ast.specs.Formula.{Identity, Pending, Permutation, Product, Stride, TensorLeft, TensorRight}
@@ -66,18 +66,18 @@ pub use Rattle.spl_ast.specs.Formula.{Twiddles, size_of}
 pub use Rattle.spl_ast.specs.Meaning.{apply}
 pub use Rattle.spl_ast.specs.Shape.{IsShaped}
 pub use Rattle.smp_rewrite.proofs.Dealt.{IsDealt, is_dealt}
-pub use Rattle.smp_rewrite.proofs.LayoutSteps.Layouts.{layouts_cost, layouts_have_size}
-pub use Rattle.smp_rewrite.proofs.LayoutSteps.NodeTrees.{left_fits}
+pub use Rattle.smp_rewrite.proofs.Layout.Layouts.{layouts_cost, layouts_have_size}
+pub use Rattle.smp_rewrite.proofs.Layout.NodeTrees.{left_fits}
 pub use Rattle.smp_rewrite.proofs.Tensors.{blocks-within, copies-within, grown-one, is-one, size-within, within_all}
 pub use Rattle.smp_rewrite.specs.Cut.{cut, cut_factors, factors_of, first_count, layout_smp, smp_of}
 pub use Rattle.smp_rewrite.specs.Fits.{CanShareLayout, HasParts, RootHasParts, RuleHasParts}
 pub use Rattle.smp_rewrite.specs.Laws.{IsDiagonal}
-pub use Rattle.smp_rewrite.specs.LayoutSteps.Layout.{IsGoodLayout, IsGoodWork, Layout, by, layout_cost, layout_of}
-pub use Rattle.smp_rewrite.specs.LayoutSteps.Layout.{layout_size, long_work, node_work, work}
-pub use Rattle.smp_rewrite.specs.LayoutSteps.Meaning.{FitsWhole, all_on, core_on, core_size, step_on}
-pub use Rattle.smp_rewrite.specs.LayoutSteps.Step.{PlainCore, PlainStep, piece, rule_steps, step, steps_of, thomas_in}
-pub use Rattle.smp_rewrite.specs.LayoutSteps.Step.{thomas_out, turns, twiddles}
-pub use Rattle.smp_rewrite.specs.LayoutSteps.Whole.{IsGoodWhole, closed_on, factor_by, only, whole_of}
+pub use Rattle.smp_rewrite.specs.Layout.Tree.{IsGoodLayout, IsGoodWork, Layout, by, layout_cost, layout_of}
+pub use Rattle.smp_rewrite.specs.Layout.Tree.{layout_size, long_work, node_work, work}
+pub use Rattle.smp_rewrite.specs.Layout.Meaning.{FitsWhole, all_on, core_on, core_size, step_on}
+pub use Rattle.smp_rewrite.specs.Layout.Step.{PlainCore, PlainStep, piece, rule_steps, step, steps_of, thomas_in}
+pub use Rattle.smp_rewrite.specs.Layout.Step.{thomas_out, turns, twiddles}
+pub use Rattle.smp_rewrite.specs.Layout.Whole.{IsGoodWhole, closed_on, factor_by, only, whole_of}
 pub use Rattle.smp_rewrite.specs.Smp.{within}
 pub use Rattle.vec_rewrite.proofs.Following.{IsWide}
 pub use Rattle.vec_rewrite.proofs.LaneShapes.{vec_shaped}

@@ -16,11 +16,11 @@ use Rattle.smp_rewrite.specs.Cut.{smp_of}
 use Rattle.smp_rewrite.specs.Smp.{within}
 use Rattle.smp_rewrite.specs.Fits.{CanShareLayout}
 use Rattle.matrix_meaning.specs.Valid.{IsValid}
-use Rattle.smp_rewrite.specs.LayoutSteps.Layout.{Layout, IsGoodLayout}
+use Rattle.smp_rewrite.specs.Layout.Tree.{Layout, IsGoodLayout}
 use Rattle.sigma_spl.specs.Shared.Costs.{work_cost}
 use Rattle.sigma_spl.specs.Shared.Targets.{target_of}
-use Rattle.smp_rewrite.specs.LayoutSteps.Whole.{Whole, whole_of, whole_on, IsGoodWhole}
-use Rattle.operators.specs.declared.tensor_paths.Tensor.TheVariants.{Blocks}
+use Rattle.smp_rewrite.specs.Layout.Whole.{Whole, whole_of, whole_on, IsGoodWhole}
+use Rattle.operators.specs.declared.paths.Tensor.TheVariants.{Blocks}
 use Rattle.tree_model.specs.Breakdown.{Breakdown}
 use Rattle.tree_model.specs.Chosen.{IsWholeTree}
 use Rattle.vec_rewrite.specs.Turning.{vec_of}

@@ -7,7 +7,7 @@ use Rattle.sigma_lower.specs.Shared.{phase_term}
 use Rattle.sigma_lower.specs.TreeTerms.Term.{PlainTerm, lowered_of}
 use Rattle.std.specs.Prelude.{◌≡◌}
 use Rattle.smp_rewrite.specs.Fits.{CanShareLayout}
-use Rattle.smp_rewrite.specs.LayoutSteps.Layout.{Layout, IsGoodLayout}
+use Rattle.smp_rewrite.specs.Layout.Tree.{Layout, IsGoodLayout}
 
 -- the terms of a phase are in order, and at its end none waits
 pub record IsOrderedPhase (h : Target) (ts : List PlainTerm) : Type 0 where

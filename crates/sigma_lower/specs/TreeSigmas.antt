@@ -3,7 +3,7 @@ use Rattle.matrix_meaning.specs.declared.Request.{Request}
 use Rattle.matrix_meaning.specs.Valid.{IsValid}
 use Rattle.sigma_spl.specs.Shared.Targets.{target_of}
 use Rattle.sigma_spl.specs.Trees.{IsTreeSigma}
-use Rattle.smp_rewrite.specs.LayoutSteps.Whole.{whole_of}
+use Rattle.smp_rewrite.specs.Layout.Whole.{whole_of}
 use Rattle.tree_model.specs.Breakdown.{Breakdown}
 use Rattle.tree_model.specs.Chosen.{IsWholeTree}
 use Rattle.sigma_lower.specs.Merged.{whole_sigma}

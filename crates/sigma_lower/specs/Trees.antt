@@ -6,9 +6,9 @@ use Rattle.sigma_spl.specs.Nest.{twiddles}
 use Rattle.sigma_spl.specs.Nest as nests
 use Rattle.sigma_spl.specs.Term.{PlainTerm, same, gath, scat, diag, nest, product}
 use Rattle.sigma_lower.specs.TreeTerms.Wrapped.{wrapped}
-use Rattle.smp_rewrite.specs.LayoutSteps.Step.{PlainCore, piece, turns, thomas_in, thomas_out}
-use Rattle.smp_rewrite.specs.LayoutSteps.Step as steps
-use Rattle.operators.specs.TensorPaths.Path.{Path}
+use Rattle.smp_rewrite.specs.Layout.Step.{PlainCore, piece, turns, thomas_in, thomas_out}
+use Rattle.smp_rewrite.specs.Layout.Step as steps
+use Rattle.operators.specs.Paths.Tensors.{Path}
 
 abbrev pub core_term : Path → PlainCore → PlainTerm
 core_term path (piece w) = nest path w

@@ -18,7 +18,7 @@ ghost use Rattle.sigma_spl.specs.Room.{HasRoom};
 ghost use Rattle.sigma_lower.specs.TreeTerms.Wrapped.{wrapped};
 ghost use Rattle.spl_ast.specs.Formula.{parts_of, size_of};
 ghost use Rattle.spl_ast.specs.Meaning.{apply};
-ghost use Rattle.operators.specs.declared.tensor_paths.Tensor.TheVariants.{Columns};
+ghost use Rattle.operators.specs.declared.paths.Tensor.TheVariants.{Columns};
 
 use crate::tree_terms::under;
 use index_fn::Index;

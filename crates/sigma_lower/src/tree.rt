@@ -15,7 +15,7 @@ ghost use Rattle.vec_rewrite.specs.Laws.{IsVecOf};
 ghost use Rattle.sigma_lower.specs.TreeTerms.Term.{after_core, factor_term, lowered_core, terms_in};
 ghost use Rattle.sigma_lower.specs.TreeTerms.Wrapped.{wrapped};
 ghost use Rattle.sigma_spl.specs.Shared.Targets.{target_of};
-ghost use Rattle.smp_rewrite.specs.LayoutSteps.Views.{plain_core};
+ghost use Rattle.smp_rewrite.specs.Layout.Views.{plain_core};
 ghost use Rattle.tree_model.specs.Breakdown.{Breakdown};
 ghost use Rattle.vec_rewrite.specs.Vectors.{factor_step, vec_on, vec_shares};
 ghost use Rattle.vec_rewrite.specs.Views.{plain_vec, plain_vec_factor};

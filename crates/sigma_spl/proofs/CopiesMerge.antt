@@ -16,11 +16,11 @@ use Rattle.operators.proofs.Sums.{sum_below-same, mul-sum_below, same-sum_below}
 use Rattle.sigma_spl.specs.Copies.{loops_of, Copies, taken, stored, all_stored, hits, StoreOnce, IsInside, AreInside}
 use Rattle.sigma_spl.specs.Copies.{loaded_by, stored_by, multiplied_by, behind, placed, first_of, others_of, under_one}
 use Rattle.sigma_spl.specs.CopiesLaws.{LoadsGather, StoresScatter, LoopsScale, StandSideBySide, StandUnder, KeepsOnce}
-use Rattle.operators.specs.declared.tensor_paths.Tensor.{Tensor}
-use Rattle.operators.specs.declared.tensor_paths.Tensor.TheVariants.{Blocks, Columns}
-use Rattle.operators.specs.TensorPaths.Loop.{nest_sum, loop_at}
-use Rattle.operators.specs.TensorPaths.Path.{Path, count_of, grown, AreInRange}
-use Rattle.operators.proofs.TensorPaths.PathLoops.{nest_sum-same, sum_below-zero}
+use Rattle.operators.specs.declared.paths.Tensor.{Tensor}
+use Rattle.operators.specs.declared.paths.Tensor.TheVariants.{Blocks, Columns}
+use Rattle.operators.specs.Paths.Loop.{nest_sum, loop_at}
+use Rattle.operators.specs.Paths.Tensors.{Path, count_of, grown, AreInRange}
+use Rattle.operators.proofs.Paths.PathLoops.{nest_sum-same, sum_below-zero}
 
 -- ---- tests
 

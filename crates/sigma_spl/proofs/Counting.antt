@@ -6,7 +6,7 @@ use Rattle.index_fn.specs.Mapping.{Mapping, at}
 use Rattle.operators.specs.Sum.{sum_below, list_below}
 use Rattle.operators.proofs.Sums.{sum_below-same, sum_below-swap, sum_below-add, sum_below-zeros}
 use Rattle.operators.proofs.Scatters.{sum_below-only, miss}
-use Rattle.operators.proofs.TensorPaths.PathLoops.{nest_sum-same}
+use Rattle.operators.proofs.Paths.PathLoops.{nest_sum-same}
 use Rattle.sigma_spl.specs.Copies.{loops_of, Copies, hits, StoreOnce, IsInside, AreInside}
 use Rattle.sigma_spl.specs.Counts.{copies_in, multiplier_cost, nest_cost, pass_cost, passes_cost, term_cost}
 use Rattle.sigma_spl.specs.Counts.{CopiesAreFree, MergeCounts}
@@ -23,9 +23,9 @@ use Rattle.sigma_spl.proofs.Keeps.{merged-reaches, nothing-stands}
 use Rattle.sigma_spl.proofs.Nests.{AreFree, all-inside}
 use Rattle.sigma_spl.proofs.Natural.{copying-good}
 use Rattle.sigma_spl.proofs.Walk.{Stands, chosen, and-right, taken-free, copying-free}
-use Rattle.operators.specs.TensorPaths.Loop.{nest_sum, loop_at}
-use Rattle.operators.specs.TensorPaths.Path.{Path, count_of}
-use Rattle.operators.specs.TensorPaths.Path as paths
+use Rattle.operators.specs.Paths.Loop.{nest_sum, loop_at}
+use Rattle.operators.specs.Paths.Tensors.{Path, count_of}
+use Rattle.operators.specs.Paths.Tensors as paths
 use Rattle.std.proofs.lemmas.Bool.Decides.{nat_tests}
 
 -- ---- how many items a pass has

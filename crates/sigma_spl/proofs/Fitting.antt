@@ -3,8 +3,8 @@ use Rattle.std.proofs.Common.{ℕ, ◌*◌, ◌^◌, ◌<◌, ◌≤◌, ◌≡�
 use Rattle.sigma_spl.specs.Nest.{PlainFactors, values, twiddles, repeated, spread, factor_count}
 use Rattle.sigma_spl.specs.Room.{HasCount, HasRoom}
 use Rattle.sigma_spl.proofs.Keeps.{left_positive, right_positive}
-use Rattle.operators.specs.declared.tensor_paths.Tensor.TheVariants.{Blocks, Columns}
-use Rattle.operators.specs.TensorPaths.Path.{Path, size_under}
+use Rattle.operators.specs.declared.paths.Tensor.TheVariants.{Blocks, Columns}
+use Rattle.operators.specs.Paths.Tensors.{Path, size_under}
 
 pub le-times : (a b : ℕ) → 0 < a → b ≤ a * b
 le-times a b h = let more : b ≤ b * a = le-mul_of_pos_right {m = a} b h in omega arith

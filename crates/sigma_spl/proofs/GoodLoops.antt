@@ -13,7 +13,7 @@ use Rattle.sigma_spl.proofs.Keeps.{inner_positive, inner-formed}
 use Rattle.sigma_spl.proofs.Natural.{tiled}
 use Rattle.sigma_spl.proofs.Nests.{suiting}
 use Rattle.sigma_spl.proofs.Walk.{AreMoves, and-left, formed-append, suit-append, loose-suits, none-moves}
-use Rattle.operators.specs.TensorPaths.Path.{Path, size_under}
+use Rattle.operators.specs.Paths.Tensors.{Path, size_under}
 
 moves-formed : (lanes n : ℕ) (fs : List Mapping) → AreMoves lanes n fs → AreFormed fs
 moves-formed lanes n [] h = tt

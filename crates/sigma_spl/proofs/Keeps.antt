@@ -27,9 +27,9 @@ use Rattle.sigma_spl.proofs.Moved.{moved-on, moved-good}
 use Rattle.sigma_spl.proofs.Sides.{side-on, side-good}
 use Rattle.sigma_spl.proofs.Walk.{waiting_on, gathers-end, moves-end, Stands, merging_on, Reaches, merging-vector, Copy}
 use Rattle.sigma_spl.proofs.Walk.{pass-reaches, diagonal-reaches, scatter-reaches, ended-are, vector-below}
-use Rattle.operators.specs.declared.tensor_paths.Tensor.TheVariants.{Blocks, Columns}
-use Rattle.operators.specs.TensorPaths.Path.{Path, size_under, under}
-use Rattle.operators.proofs.TensorPaths.Under.{under-product}
+use Rattle.operators.specs.declared.paths.Tensor.TheVariants.{Blocks, Columns}
+use Rattle.operators.specs.Paths.Tensors.{Path, size_under, under}
+use Rattle.operators.proofs.Paths.Under.{under-product}
 
 -- ---- vectors under tensors and side by side
 

@@ -1,4 +1,4 @@
-pub mod PlainTerms
+pub mod Plain
 pub mod CopiesMerge
 pub mod Nests
 pub mod Natural
@@ -11,7 +11,7 @@ pub mod Within
 pub mod Small
 pub mod Limited
 pub mod HornerRows
-pub mod PassPlaces
+pub mod Places
 pub mod Carried
 pub mod Listed
 pub mod GoodLoops

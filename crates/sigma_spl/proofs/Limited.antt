@@ -11,7 +11,7 @@ use Rattle.std.proofs.lemmas.List.FromFn.{get_or-map-range_with_len, length-map-
 use Rattle.index_fn.specs.Mapping.{Mapping, at}
 use Rattle.operators.specs.Sum.{list_below}
 use Rattle.operators.proofs.Lists.{at-list_below, length-list_below}
-use Rattle.perm_algebra.specs.Affine.{Sum, constant, variable, remainder, top, peak, levels, parts, joined}
+use Rattle.perm_algebra.specs.Affine.{Sum, constant, variable, remainder, top, peak, levels, parts, added}
 use Rattle.sigma_spl.specs.Good.{AreBelow, CanNest, IsGoodTerm}
 use Rattle.sigma_spl.specs.Limits.{AreSeveral, HasRows, HasSeveral, AreWithin, MergeLimits}
 use Rattle.sigma_spl.specs.Merge.{most, Merging, nothing, limits_of, is_limited, are_small, is_multiplier_within}
@@ -28,8 +28,8 @@ use Rattle.sigma_spl.proofs.Walk.{chosen, and-left, and-right, AreMoves, Stands}
 use Rattle.sigma_spl.proofs.Within.{within-append, TablesFit, AreInside', within-settled, within-pass}
 use Rattle.sigma_spl.proofs.Within.{within-scatter, inside-end, within-ended, within-multiplied, IsSmall, limited}
 use Rattle.sigma_spl.proofs.Within.{small-true, constant-small}
-use Rattle.operators.specs.declared.tensor_paths.Tensor.TheVariants.{Blocks, Columns}
-use Rattle.operators.specs.TensorPaths.Path.{Path, count_of, size_under}
+use Rattle.operators.specs.declared.paths.Tensor.TheVariants.{Blocks, Columns}
+use Rattle.operators.specs.Paths.Tensors.{Path, count_of, size_under}
 
 -- ---- from tests
 
@@ -314,7 +314,7 @@ module _ (room n before k : ℕ) (path : Path) (several : AreSeveral path) (some
 
   sum-within : (z : PlainNest) (e : Sum) → is_limited (room - length path) k (limits_of z) e ≡ true →
       is_limited room (size_under path n) (limits z) (place_sum path n 0
-      (joined (constant before) (renumbered (length path) e))) ≡ true
+      (added (constant before) (renumbered (length path) e))) ≡ true
   sum-within z e h =
       let low = item-low path n several some high in
       let inner = behind-small before (room - length path) k n (limits z) (renumbered (length path) e) fits low (renumbered-small (length path) (room - length path) k (limits_of z) (limits z) e (same-limits z) (tested _ _ _ e h)) in
@@ -324,7 +324,7 @@ module _ (room n before k : ℕ) (path : Path) (several : AreSeveral path) (some
 
   sums-within : (z : PlainNest) (es : List Sum) → list_all (is_limited (room - length path) k (limits_of z)) es ≡ true →
       list_all (is_limited room (size_under path n) (limits z))
-      (map (λ e. place_sum path n 0 (joined (constant before) (renumbered (length path) e))) es) ≡ true
+      (map (λ e. place_sum path n 0 (added (constant before) (renumbered (length path) e))) es) ≡ true
   sums-within z [] h = refl
   sums-within z (e ∷ es) h = and_from _ _ (sum-within z e (and-left (is_limited (room - length path) k (limits_of z) e) _ h)) (sums-within z es (and-right (is_limited (room - length path) k (limits_of z) e) _ h))
 

@@ -21,7 +21,7 @@ use Rattle.sigma_spl.proofs.Carried.{carried-front, carried-here, IsWithinElse, 
 use Rattle.sigma_spl.proofs.Natural.{load-natural, store-natural, names-in, names-out, whole-in, whole-out, ranged}
 use Rattle.sigma_spl.proofs.Nests.{load-through, store-through}
 use Rattle.sigma_spl.proofs.Within.{carries-all}
-use Rattle.operators.specs.TensorPaths.Path.{Path, count_of}
+use Rattle.operators.specs.Paths.Tensors.{Path, count_of}
 
 -- ---- lists of sums
 

@@ -17,8 +17,8 @@ use Rattle.sigma_spl.proofs.CopiesMerge.{loop-same}
 use Rattle.sigma_spl.proofs.Natural.{ranged, place-alone, store-natural, names-out, once-natural, sound-constants}
 use Rattle.sigma_spl.proofs.Natural.{sound-places, at-natural}
 use Rattle.sigma_spl.proofs.Nests.{stored-alike, at-map, length-map}
-use Rattle.operators.specs.TensorPaths.Path.{Path, count_of, size_under, place, AreInRange}
-use Rattle.operators.proofs.TensorPaths.PathPlaces.{place-below}
+use Rattle.operators.specs.Paths.Tensors.{Path, count_of, size_under, place, AreInRange}
+use Rattle.operators.proofs.Paths.PathPlaces.{place-below}
 
 -- ---- copies that move their items
 

@@ -11,8 +11,8 @@ use Rattle.std.proofs.lemmas.Bool.Decides.{nat_tests}
 use Rattle.operators.specs.Sum.{list_below}
 use Rattle.operators.proofs.Lists.{at-list_below, list_below-same, factor_positive}
 use Rattle.perm_algebra.specs.Affine.{Sum, constant, variable, remainder, value, IsSound, scaled}
-use Rattle.perm_algebra.proofs.AffineLaws.{value-scaled, value-joined}
-use Rattle.perm_algebra.proofs.Kept.{sound-scaled, sound-joined}
+use Rattle.perm_algebra.proofs.AffineLaws.{value-scaled, value-added}
+use Rattle.perm_algebra.proofs.Kept.{sound-scaled, sound-added}
 use Rattle.sigma_spl.specs.Copies.{loops_of, pass_on}
 use Rattle.sigma_spl.specs.Good.{AreSound, NamesItems, HasLanes, AreWhole, AreBlocks, CanNest, IsGoodPass, IsVector}
 use Rattle.sigma_spl.specs.Merge.{place_sum, items_in, items_out, new_nest, one_loop, copying}
@@ -21,11 +21,11 @@ use Rattle.sigma_spl.specs.Term.{natural}
 use Rattle.sigma_spl.specs.Work.{PlainWork, kernel, rows, horner, tile, copy, work_size, work_on}
 use Rattle.sigma_spl.proofs.CopiesMerge.{loop-same}
 use Rattle.sigma_spl.proofs.Nests.{stored-alike, length-map, at-map}
-use Rattle.operators.specs.declared.tensor_paths.Tensor.TheVariants.{Blocks, Columns}
-use Rattle.operators.specs.TensorPaths.Loop.{loop_at, IsOneToOne}
-use Rattle.operators.specs.TensorPaths.Path.{Path, count_of, size_under, place, AreInRange}
-use Rattle.operators.proofs.TensorPaths.PathLoops.{loop_at-place, place-one_to_one, reach, Reached}
-use Rattle.operators.proofs.TensorPaths.PathPlaces.{place-below}
+use Rattle.operators.specs.declared.paths.Tensor.TheVariants.{Blocks, Columns}
+use Rattle.operators.specs.Paths.Loop.{loop_at, IsOneToOne}
+use Rattle.operators.specs.Paths.Tensors.{Path, count_of, size_under, place, AreInRange}
+use Rattle.operators.proofs.Paths.PathLoops.{loop_at-place, place-one_to_one, reach, Reached}
+use Rattle.operators.proofs.Paths.PathPlaces.{place-below}
 
 -- ---- ranges
 
@@ -57,19 +57,19 @@ values-are (t ∷ path) d f (v ∷ vs) more h is = ap₂ (λ x xs. x ∷ xs) (ap
 
 pub sound-place_sum : (path : Path) (n d : ℕ) (e : Sum) → IsSound e → IsSound (place_sum path n d e)
 sound-place_sum [] n d e h = h
-sound-place_sum (Blocks c ∷ path) n d e h = sound-joined (scaled (size_under path n) (variable 1 d (constant 0))) (place_sum path n (d + 1) e) tt (sound-place_sum path n (d + 1) e h)
-sound-place_sum (Columns c ∷ path) n d e h = sound-joined (scaled c (place_sum path n (d + 1) e)) (variable 1 d (constant 0)) (sound-scaled c (place_sum path n (d + 1) e) (sound-place_sum path n (d + 1) e h)) tt
+sound-place_sum (Blocks c ∷ path) n d e h = sound-added (scaled (size_under path n) (variable 1 d (constant 0))) (place_sum path n (d + 1) e) tt (sound-place_sum path n (d + 1) e h)
+sound-place_sum (Columns c ∷ path) n d e h = sound-added (scaled c (place_sum path n (d + 1) e)) (variable 1 d (constant 0)) (sound-scaled c (place_sum path n (d + 1) e) (sound-place_sum path n (d + 1) e h)) tt
 
 pub value-place_sum : (path : Path) (n d : ℕ) (e : Sum) (vs : ℕ → ℕ) →
     value (place_sum path n d e) vs ≡ place path n (loop_values path d vs) (value e vs)
 value-place_sum [] n d e vs = refl
 value-place_sum (Blocks c ∷ path) n d e vs =
     let size = size_under path n in
-    value-joined (scaled size (variable 1 d (constant 0))) (place_sum path n (d + 1) e) vs
+    value-added (scaled size (variable 1 d (constant 0))) (place_sum path n (d + 1) e) vs
     ∙ ap₂ (λ x y. x + y) (value-scaled size (variable 1 d (constant 0)) vs) (value-place_sum path n (d + 1) e vs)
     ∙ ap (λ x. x + place path n (loop_values path (d + 1) vs) (value e vs)) (omega arith)
 value-place_sum (Columns c ∷ path) n d e vs =
-    value-joined (scaled c (place_sum path n (d + 1) e)) (variable 1 d (constant 0)) vs
+    value-added (scaled c (place_sum path n (d + 1) e)) (variable 1 d (constant 0)) vs
     ∙ ap (λ x. x + (1 * vs d + 0)) (value-scaled c (place_sum path n (d + 1) e) vs ∙ ap (λ y. c * y) (value-place_sum path n (d + 1) e vs))
     ∙ omega arith
 

@@ -20,8 +20,8 @@ use Rattle.sigma_spl.specs.Nest.{PlainFactors, factor_at, PlainMultiplier, Plain
 use Rattle.sigma_spl.specs.Nest.{store_place, multiplied_on, copies_of, nests_on}
 use Rattle.sigma_spl.specs.Work.{PlainWork, kernel, rows, horner, tile, copy, work_size}
 use Rattle.sigma_spl.proofs.CopiesMerge.{loop-same, loads_gather, stores_scatter, loops_scale, keeps_once}
-use Rattle.operators.specs.TensorPaths.Loop.{loop_at}
-use Rattle.operators.specs.TensorPaths.Path.{AreInRange}
+use Rattle.operators.specs.Paths.Loop.{loop_at}
+use Rattle.operators.specs.Paths.Tensors.{AreInRange}
 
 -- ---- loops that are alike
 

@@ -4,10 +4,10 @@ use Rattle.std.proofs.Common.{List, [], ◌∷◌, ◌++◌, length, subst, Opti
 use Rattle.std.specs.Prelude.{slice_index, slice_index_or, map, ◌==◌, if◌then◌else◌}
 use Rattle.operators.specs.Operator.{Operator}
 use Rattle.operators.proofs.Lists.{factor_positive, at-list_below, list_below-same, place_below}
-use Rattle.operators.proofs.TensorPaths.Under.{one_under-same}
-use Rattle.perm_algebra.specs.Affine.{Sum, constant, variable, remainder, quotient, value, IsSound, joined}
-use Rattle.perm_algebra.proofs.AffineLaws.{value-joined}
-use Rattle.perm_algebra.proofs.Kept.{sound-joined}
+use Rattle.operators.proofs.Paths.Under.{one_under-same}
+use Rattle.perm_algebra.specs.Affine.{Sum, constant, variable, remainder, quotient, value, IsSound, added}
+use Rattle.perm_algebra.proofs.AffineLaws.{value-added}
+use Rattle.perm_algebra.proofs.Kept.{sound-added}
 use Rattle.sigma_spl.specs.Copies.{loops_of, Copies, stored, all_stored, pass_on, hits, StoreOnce, IsInside, AreInside}
 use Rattle.sigma_spl.specs.Copies.{behind, placed, first_of, others_of, under_one, both}
 use Rattle.sigma_spl.specs.Good.{AreSound, NamesItems, HasLanes, AreWhole, AreGoodNests, IsGoodPass}
@@ -19,10 +19,10 @@ use Rattle.sigma_spl.proofs.CopiesMerge.{loop-same, stored-append, hits-append, 
 use Rattle.sigma_spl.proofs.CopiesMerge.{keeps_once}
 use Rattle.sigma_spl.proofs.Natural.{loop_values, value-place_sum, sound-place_sum}
 use Rattle.sigma_spl.proofs.Nests.{stored-alike, at-map, length-map, all-inside}
-use Rattle.operators.specs.declared.tensor_paths.Tensor.{Tensor}
-use Rattle.operators.specs.declared.tensor_paths.Tensor.TheVariants.{Blocks, Columns}
-use Rattle.operators.specs.TensorPaths.Loop.{loop_at}
-use Rattle.operators.specs.TensorPaths.Path.{Path, count_of, grown, size_under, under, place, AreInRange}
+use Rattle.operators.specs.declared.paths.Tensor.{Tensor}
+use Rattle.operators.specs.declared.paths.Tensor.TheVariants.{Blocks, Columns}
+use Rattle.operators.specs.Paths.Loop.{loop_at}
+use Rattle.operators.specs.Paths.Tensors.{Path, count_of, grown, size_under, under, place, AreInRange}
 
 -- ---- values of the path's loops, and those after them
 
@@ -89,17 +89,17 @@ value-behind : (path : Path) (e : Sum) (vs : List ℕ) → value (renumbered (le
 value-behind path e vs = value-renumbered (length path) e (slice_index vs) ∙ ap (value e) (λ t i. rest-index path vs i t)
 
 abbrev pub up : Path → ℕ → ℕ → Sum → Sum
-up path n before e = place_sum path n 0 (joined (constant before) (renumbered (length path) e))
+up path n before e = place_sum path n 0 (added (constant before) (renumbered (length path) e))
 
 value-up : (path : Path) (n before : ℕ) (e : Sum) (counts vs more : List ℕ) →
     AreInRange (loops_of (map count_of path ++ counts)) vs →
     value (up path n before e) (slice_index (vs ++ more)) ≡ place path n vs
     (before + value e (slice_index (rest_of path vs ++ more)))
 value-up path n before e counts vs more h =
-    value-place_sum path n 0 (joined (constant before) (renumbered (length path) e)) (slice_index (vs ++ more))
+    value-place_sum path n 0 (added (constant before) (renumbered (length path) e)) (slice_index (vs ++ more))
     ∙ first-values path counts vs more h n (slice_index (vs ++ more)) (λ i. ap (slice_index (vs ++ more)) (omega arith)) _
     ∙ ap (place path n vs)
-    (value-joined (constant before) (renumbered (length path) e) (slice_index (vs ++ more))
+    (value-added (constant before) (renumbered (length path) e) (slice_index (vs ++ more))
     ∙ ap (λ v. before + v) (value-behind path e (vs ++ more) ∙ ap (λ ws. value e (slice_index ws)) (rest-append path counts vs more h))) where
       place-first : (path : Path) (n d : ℕ) (f : ℕ → ℕ) (counts vs more : List ℕ) (j : ℕ) →
           AreInRange (loops_of (map count_of path ++ counts)) vs → ((i : ℕ) → f (d + i) ≡ slice_index (vs ++ more) i) →
@@ -120,9 +120,9 @@ value-up-alone : (path : Path) (n before : ℕ) (e : Sum) (counts vs : List ℕ)
     AreInRange (loops_of (map count_of path ++ counts)) vs →
     value (up path n before e) (slice_index vs) ≡ place path n vs (before + value e (slice_index (rest_of path vs)))
 value-up-alone path n before e counts vs h =
-    value-place_sum path n 0 (joined (constant before) (renumbered (length path) e)) (slice_index vs)
+    value-place_sum path n 0 (added (constant before) (renumbered (length path) e)) (slice_index vs)
     ∙ place-values path n 0 (slice_index vs) counts vs _ h (λ i. ap (slice_index vs) (omega arith))
-    ∙ ap (place path n vs) (value-joined (constant before) (renumbered (length path) e) (slice_index vs) ∙ ap (λ v. before + v) (value-behind path e vs))
+    ∙ ap (place path n vs) (value-added (constant before) (renumbered (length path) e) (slice_index vs) ∙ ap (λ v. before + v) (value-behind path e vs))
 
 -- ---- places of lifted nests
 
@@ -381,7 +381,7 @@ side-on m k l path zs ys x h g =
 
 sound-up : (path : Path) (n before : ℕ) (sums : List Sum) → AreSound sums → AreSound (map (up path n before) sums)
 sound-up path n before [] h = tt
-sound-up path n before (e ∷ es) h = (sound-place_sum path n 0 _ (sound-joined (constant before) (renumbered (length path) e) tt (sound-renumbered (length path) e h.0)), sound-up path n before es h.1)
+sound-up path n before (e ∷ es) h = (sound-place_sum path n 0 _ (sound-added (constant before) (renumbered (length path) e) tt (sound-renumbered (length path) e h.0)), sound-up path n before es h.1)
 
 pub names-up : (path : Path) (n before : ℕ) (w : PlainWork) (sums : List Sum) → NamesItems w sums →
     NamesItems w (map (up path n before) sums)

@@ -7,15 +7,15 @@ use Rattle.std.proofs.lemmas.Bool.Decides.{nat_tests}
 use Rattle.std.proofs.lemmas.Nat.{mul-add-lt}
 use Rattle.std.proofs.lemmas.Bool.{and_from}
 use Rattle.perm_algebra.specs.Affine.{Sum, constant, variable, remainder, quotient, top, peak, levels, parts, scaled}
-use Rattle.perm_algebra.specs.Affine.{joined}
-use Rattle.perm_algebra.proofs.AffineLaws.{top-scaled, top-joined}
-use Rattle.perm_algebra.proofs.Sizes.{levels-scaled, levels-joined, parts-scaled, parts-joined}
+use Rattle.perm_algebra.specs.Affine.{added}
+use Rattle.perm_algebra.proofs.AffineLaws.{top-scaled, top-added}
+use Rattle.perm_algebra.proofs.Sizes.{levels-scaled, levels-added, parts-scaled, parts-added}
 use Rattle.sigma_spl.specs.Limits.{AreSeveral}
 use Rattle.sigma_spl.specs.Merge.{total, is_divided, are_small, place_sum, renumbered}
 use Rattle.sigma_spl.proofs.Walk.{and-left, and-right}
 use Rattle.sigma_spl.proofs.Within.{IsSmall, small-true}
-use Rattle.operators.specs.declared.tensor_paths.Tensor.TheVariants.{Blocks, Columns}
-use Rattle.operators.specs.TensorPaths.Path.{Path, count_of, size_under}
+use Rattle.operators.specs.declared.paths.Tensor.TheVariants.{Blocks, Columns}
+use Rattle.operators.specs.Paths.Tensors.{Path, count_of, size_under}
 
 pub max-lt : (a b n : ℕ) → a < n → b < n → max a b < n
 max-lt a b n h k = grind (arith, nat_tests)
@@ -28,14 +28,14 @@ max-right a b n h = grind (arith, nat_tests)
 
 -- ---- a number more
 
-peak-more : (c n : ℕ) (cs : ℕ → ℕ) (e : Sum) → peak e < n → c + top e cs < n → peak (joined (constant c) e) < n
+peak-more : (c n : ℕ) (cs : ℕ → ℕ) (e : Sum) → peak e < n → c + top e cs < n → peak (added (constant c) e) < n
 peak-more c n cs (constant d) h t = t
 peak-more c n cs (variable f d rest) h t = max-lt f _ n (max-left f (peak rest) n h) (peak-more c n cs rest (max-right f (peak rest) n h) (omega arith))
 peak-more c n cs (remainder f of m rest) h t = max-lt f _ n (max-left f (peak rest) n h) (peak-more c n cs rest (max-right f (peak rest) n h) (omega arith))
 peak-more c n cs (quotient f of m rest) h t = max-lt f _ n (max-left f (peak rest) n h) (peak-more c n cs rest (max-right f (peak rest) n h) (omega arith))
 
 small-more : (c : ℕ) (cs : ℕ → ℕ) (e : Sum) → are_small cs e ≡ true → c + top e cs < 2 ^ 32 →
-    are_small cs (joined (constant c) e) ≡ true
+    are_small cs (added (constant c) e) ≡ true
 small-more c cs (constant d) h t = small-true (c + d) t
 small-more c cs (variable f d rest) h t = and_from _ _ (and-left (nat_lt f (2 ^ 32)) _ h) (small-more c cs rest (and-right (nat_lt f (2 ^ 32)) _ h) (omega arith))
 small-more c cs (remainder f of m rest) h t =
@@ -47,14 +47,14 @@ small-more c cs (quotient f of m rest) h t =
 
 -- ---- a variable at the end
 
-peak-end : (v n : ℕ) (e : Sum) → peak e < n → 1 < n → peak (joined e (variable 1 v (constant 0))) < n
+peak-end : (v n : ℕ) (e : Sum) → peak e < n → 1 < n → peak (added e (variable 1 v (constant 0))) < n
 peak-end v n (constant c) h two = max-lt 1 (c + 0) n two (omega arith)
 peak-end v n (variable f d rest) h two = max-lt f _ n (max-left f (peak rest) n h) (peak-end v n rest (max-right f (peak rest) n h) two)
 peak-end v n (remainder f of m rest) h two = max-lt f _ n (max-left f (peak rest) n h) (peak-end v n rest (max-right f (peak rest) n h) two)
 peak-end v n (quotient f of m rest) h two = max-lt f _ n (max-left f (peak rest) n h) (peak-end v n rest (max-right f (peak rest) n h) two)
 
 small-end : (cs : ℕ → ℕ) (v : ℕ) (e : Sum) → are_small cs e ≡ true →
-    are_small cs (joined e (variable 1 v (constant 0))) ≡ true
+    are_small cs (added e (variable 1 v (constant 0))) ≡ true
 small-end cs v (constant c) h = let e : c + 0 ≡ c = omega arith in ap (λ d. nat_lt d (2 ^ 32)) e ∙ h
 small-end cs v (variable f d rest) h = and_from _ _ (and-left (nat_lt f (2 ^ 32)) _ h) (small-end cs v rest (and-right (nat_lt f (2 ^ 32)) _ h))
 small-end cs v (remainder f of m rest) h =
@@ -154,11 +154,11 @@ place-small (Blocks c ∷ path) r d v e cs several counts some high h =
     let none : n * 0 ≡ 0 = omega arith in
     let one : n * 1 ≡ n = omega arith in
     record {
-      parts = omega (arith, parts-joined first g, inner.parts);
-      levels = levels-joined first g 64 (omega arith) inner.levels;
+      parts = omega (arith, parts-added first g, inner.parts);
+      levels = levels-added first g 64 (omega arith) inner.levels;
       top = let bound = mul-add-lt (c - 1) n (top g cs) c (omega (arith, several.0)) inner.top in
           let count : cs v - 1 ≡ c - 1 = ap (λ z. z - 1) counts.0 in
-          let whole : n * 1 * (cs v - 1) + n * 0 ≡ (c - 1) * n = ap (λ z. n * 1 * z + n * 0) count ∙ flat n (c - 1) in omega (arith, top-joined first g cs, whole, bound);
+          let whole : n * 1 * (cs v - 1) + n * 0 ≡ (c - 1) * n = ap (λ z. n * 1 * z + n * 0) count ∙ flat n (c - 1) in omega (arith, top-added first g cs, whole, bound);
       peak = max-lt (n * 1) _ (c * n) (omega (arith, larger, one)) (peak-more (n * 0) (c * n) cs g (omega (arith, inner.peak, larger)) (omega (arith, none, inner.top, larger)));
       small = and_from _ _ (small-true (n * 1) (omega (arith, one, low))) (small-more (n * 0) cs g inner.small (omega (arith, none, inner.top, low)));
     } where
@@ -175,18 +175,18 @@ place-small (Columns c ∷ path) r d v e cs several counts some high h =
     let larger = more-than c n several.0 positive in
     let count : cs v - 1 ≡ c - 1 = ap (λ z. z - 1) counts.0 in
     record {
-      parts = omega (arith, parts-joined (scaled c g) last, parts-scaled c g, inner.parts);
-      levels = levels-joined (scaled c g) last 64 (omega (arith, levels-scaled c g, inner.levels)) (omega arith);
+      parts = omega (arith, parts-added (scaled c g) last, parts-scaled c g, inner.parts);
+      levels = levels-added (scaled c g) last 64 (omega (arith, levels-scaled c g, inner.levels)) (omega arith);
       top = let bound = mul-add-lt (top g cs) c (c - 1) n inner.top (omega (arith, several.0)) in
-          let swap : c * top g cs ≡ top g cs * c = omega arith in omega (arith, top-joined (scaled c g) last cs, top-scaled c g cs, swap, count, bound);
+          let swap : c * top g cs ≡ top g cs * c = omega arith in omega (arith, top-added (scaled c g) last cs, top-scaled c g cs, swap, count, bound);
       peak = peak-end v (n * c) (scaled c g) (peak-scaled c n g (omega (arith, several.0)) inner.peak) (omega (arith, larger, turned, positive));
       small = small-end cs v (scaled c g) (small-scaled cs c n g (omega (arith, several.0)) inner.peak high inner.small);
     }
 
 -- ---- after other words
 
-levels-more : (c : ℕ) (e : Sum) → levels e ≤ 64 → levels (joined (constant c) e) ≤ 64
-levels-more c e h = levels-joined (constant c) e 64 (omega arith) h
+levels-more : (c : ℕ) (e : Sum) → levels e ≤ 64 → levels (added (constant c) e) ≤ 64
+levels-more c e h = levels-added (constant c) e 64 (omega arith) h
 
 parts-renumbered : (k : ℕ) (e : Sum) → parts (renumbered k e) ≡ parts e
 parts-renumbered k (constant c) = refl
@@ -244,12 +244,12 @@ renumbered-small k room n cs ds e same h =
     }
 
 pub behind-small : (before room k n : ℕ) (cs : ℕ → ℕ) (e : Sum) → before + k ≤ n → n ≤ 2 ^ 20 → IsSmall room k cs e →
-    IsSmall room n cs (joined (constant before) e)
+    IsSmall room n cs (added (constant before) e)
 behind-small before room k n cs e fits high h =
     record {
-      parts = omega (arith, parts-joined (constant before) e, h.parts);
+      parts = omega (arith, parts-added (constant before) e, h.parts);
       levels = levels-more before e h.levels;
-      top = omega (arith, top-joined (constant before) e cs, h.top);
+      top = omega (arith, top-added (constant before) e cs, h.top);
       peak = peak-more before n cs e (omega (arith, h.peak)) (omega (arith, h.top));
       small = small-more before cs e h.small (omega (arith, h.top));
     }

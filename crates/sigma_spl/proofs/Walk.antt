@@ -22,7 +22,7 @@ use Rattle.sigma_spl.proofs.Nests.{through, AreFormed, AreFree, Suits, AllSuit, 
 use Rattle.sigma_spl.proofs.Nests.{nests-scattered, nests-multiplied, gathered-good, scattered-good, multiplied-good}
 use Rattle.sigma_spl.proofs.Moved.{table-good, table-on}
 use Rattle.sigma_spl.proofs.Natural.{copying-same, copying-good}
-use Rattle.operators.specs.TensorPaths.Path.{Path}
+use Rattle.operators.specs.Paths.Tensors.{Path}
 
 -- ---- choices
 

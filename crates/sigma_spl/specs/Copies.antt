@@ -2,10 +2,10 @@
 use Rattle.std.specs.Prelude.{◌≡◌, ℕ, ◌+◌, ◌*◌, ◌-◌, ◌%◌, ◌<◌, List, [], ◌∷◌, map, nat_lt, if◌then◌else◌, slice_index}
 use Rattle.operators.specs.Operator.{Operator}
 use Rattle.operators.specs.Sum.{list_below}
-use Rattle.operators.specs.declared.tensor_paths.Tensor.{Tensor}
-use Rattle.operators.specs.declared.tensor_paths.Tensor.TheVariants.{Blocks, Columns}
-use Rattle.operators.specs.TensorPaths.Loop.{loop_at}
-use Rattle.operators.specs.TensorPaths.Path.{Path, count_of, AreInRange}
+use Rattle.operators.specs.declared.paths.Tensor.{Tensor}
+use Rattle.operators.specs.declared.paths.Tensor.TheVariants.{Blocks, Columns}
+use Rattle.operators.specs.Paths.Loop.{loop_at}
+use Rattle.operators.specs.Paths.Tensors.{Path, count_of, AreInRange}
 
 -- a loop for each count, the outermost first
 abbrev pub loops_of : List ℕ → Path

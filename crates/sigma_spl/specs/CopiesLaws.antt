@@ -5,8 +5,8 @@ use Rattle.operators.specs.Loop.{IsPermutationBelow}
 use Rattle.operators.specs.Operator.{gather, scale}
 use Rattle.sigma_spl.specs.Copies.{Copies, pass_on, AreInside, StoreOnce, loaded_by, stored_by, multiplied_by, behind}
 use Rattle.sigma_spl.specs.Copies.{under_one, both}
-use Rattle.operators.specs.declared.tensor_paths.Tensor.{Tensor}
-use Rattle.operators.specs.TensorPaths.Path.{grown, one_under}
+use Rattle.operators.specs.declared.paths.Tensor.{Tensor}
+use Rattle.operators.specs.Paths.Tensors.{grown, one_under}
 
 abbrev pub LoadsGather : Type 0
 LoadsGather =

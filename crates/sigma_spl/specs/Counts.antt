@@ -5,7 +5,7 @@ use Rattle.sigma_spl.specs.Merge.{Room, passes_within}
 use Rattle.sigma_spl.specs.Nest.{PlainMultiplier, PlainNest}
 use Rattle.sigma_spl.specs.Term.{PlainTerm, same, gath, scat, diag, nest, move, product, beside}
 use Rattle.sigma_spl.specs.Work.{PlainWork, copy, work_size}
-use Rattle.operators.specs.TensorPaths.Path.{copies_of}
+use Rattle.operators.specs.Paths.Tensors.{copies_of}
 
 -- how many copies a nest has
 abbrev pub copies_in : List ℕ → ℕ

@@ -8,8 +8,8 @@ use Rattle.sigma_spl.specs.Merge.{back_of, Room, passes_within}
 use Rattle.sigma_spl.specs.Nest.{PlainNest, sum_value, copies_of, passes_on, factor_count}
 use Rattle.sigma_spl.specs.Term.{PlainTerm, same, gath, scat, diag, nest, move, product, beside, term_on}
 use Rattle.sigma_spl.specs.Work.{PlainWork, kernel, rows, horner, tile, copy, work_size}
-use Rattle.operators.specs.declared.tensor_paths.Tensor.TheVariants.{Blocks, Columns}
-use Rattle.operators.specs.TensorPaths.Path.{Path, size_under, AreInRange}
+use Rattle.operators.specs.declared.paths.Tensor.TheVariants.{Blocks, Columns}
+use Rattle.operators.specs.Paths.Tensors.{Path, size_under, AreInRange}
 
 -- ---- passes
 

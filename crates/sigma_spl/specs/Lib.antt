@@ -1,4 +1,4 @@
-pub mod PlainTerms
+pub mod Plain
 pub mod Copies
 pub mod CopiesLaws
 pub mod Work

@@ -5,7 +5,7 @@ use Rattle.sigma_spl.specs.Merge.{is_within, passes_of}
 use Rattle.sigma_spl.specs.Nest.{PlainNest}
 use Rattle.sigma_spl.specs.Term.{PlainTerm, nest, move, product, beside}
 use Rattle.sigma_spl.specs.Work.{PlainWork, rows, horner}
-use Rattle.operators.specs.TensorPaths.Path.{Path, count_of}
+use Rattle.operators.specs.Paths.Tensors.{Path, count_of}
 
 -- each tensor has several copies
 abbrev pub AreSeveral : Path → Type 0

@@ -10,7 +10,7 @@ use Rattle.sigma_spl.specs.Nest.{PlainFactors, factor_count, PlainMultiplier, Pl
 use Rattle.sigma_spl.specs.Term.{PlainTerm, same, gath, scat, diag, nest, move, product, beside, inner_of}
 use Rattle.sigma_spl.specs.Work.{PlainWork, tile, work_size}
 use Rattle.perm_algebra.specs.Affine.{Sum}
-use Rattle.operators.specs.TensorPaths.Path.{Path, count_of, place, AreInRange}
+use Rattle.operators.specs.Paths.Tensors.{Path, count_of, place, AreInRange}
 
 -- the factors of a diagonal, at what these functions make of the natural place of an item
 pub record PlainTaken : Type 0 where

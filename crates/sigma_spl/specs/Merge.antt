@@ -6,14 +6,14 @@ use Rattle.std.specs.List.{range_with_len, list_all}
 use Rattle.index_fn.specs.Mapping.{Mapping, at}
 pub use Rattle.index_fn.specs.Back.{back_of, inverse_below, unit_below}
 use Rattle.perm_algebra.specs.Affine.{Sum, constant, variable, remainder, quotient, top, peak, levels, parts, scaled}
-use Rattle.perm_algebra.specs.Affine.{joined, simplified}
+use Rattle.perm_algebra.specs.Affine.{added, simplified}
 use Rattle.perm_algebra.specs.Room.{has_room}
 use Rattle.operators.specs.Sum.{list_below}
 use Rattle.sigma_spl.specs.Nest.{PlainFactors, spread, factor_count, PlainMultiplier, PlainNest}
 use Rattle.sigma_spl.specs.Term.{PlainTerm, same, gath, scat, diag, nest, move, product, beside, inner_of}
 use Rattle.sigma_spl.specs.Work.{PlainWork, rows, horner, tile, copy, work_size}
-use Rattle.operators.specs.declared.tensor_paths.Tensor.TheVariants.{Blocks, Columns}
-use Rattle.operators.specs.TensorPaths.Path.{Path, count_of, size_under}
+use Rattle.operators.specs.declared.paths.Tensor.TheVariants.{Blocks, Columns}
+use Rattle.operators.specs.Paths.Tensors.{Path, count_of, size_under}
 
 -- ---- places as sums
 
@@ -21,8 +21,8 @@ use Rattle.operators.specs.TensorPaths.Path.{Path, count_of, size_under}
 abbrev pub place_sum : Path → ℕ → ℕ → Sum → Sum
 place_sum [] n d e = e
 place_sum (Blocks c ∷ path) n d e =
-    joined (scaled (size_under path n) (variable 1 d (constant 0))) (place_sum path n (d + 1) e)
-place_sum (Columns c ∷ path) n d e = joined (scaled c (place_sum path n (d + 1) e)) (variable 1 d (constant 0))
+    added (scaled (size_under path n) (variable 1 d (constant 0))) (place_sum path n (d + 1) e)
+place_sum (Columns c ∷ path) n d e = added (scaled c (place_sum path n (d + 1) e)) (variable 1 d (constant 0))
 
 -- the items that are loaded, and those that are stored, given the number of the loops' variables
 abbrev pub items_in : PlainWork → ℕ → List Sum
@@ -309,7 +309,7 @@ renumbered_places k (Some d) = Some (record { factors = d.factors; places = map 
 -- a part that begins a number of words later, under the tensors of a path round n words
 abbrev pub lifted : Path → ℕ → ℕ → PlainNest → PlainNest
 lifted path n before z =
-    let up : Sum → Sum = λ e. place_sum path n 0 (joined (constant before) (renumbered (length path) e)) in
+    let up : Sum → Sum = λ e. place_sum path n 0 (added (constant before) (renumbered (length path) e)) in
     record {
       counts = map count_of path ++ z.counts;
       work = z.work;

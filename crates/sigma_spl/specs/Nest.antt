@@ -9,8 +9,8 @@ use Rattle.operators.specs.Sum.{list_below}
 use Rattle.perm_algebra.specs.Affine.{Sum, constant, value}
 use Rattle.sigma_spl.specs.Copies.{Copies, pass_on}
 use Rattle.sigma_spl.specs.Work.{PlainWork, rows, horner, tile, work_size, work_on}
-use Rattle.operators.specs.declared.tensor_paths.Tensor.TheVariants.{Blocks, Columns}
-use Rattle.operators.specs.TensorPaths.Path.{Path, size_under}
+use Rattle.operators.specs.declared.paths.Tensor.TheVariants.{Blocks, Columns}
+use Rattle.operators.specs.Paths.Tensors.{Path, size_under}
 
 -- which item of its copy stands at a place, for copies of size n
 abbrev pub inner_of : Path → ℕ → Mapping

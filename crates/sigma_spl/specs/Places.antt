@@ -1,7 +1,7 @@
 -- What stands at a place that a pass stores to.
 use Rattle.std.specs.Prelude.{◌≡◌, ℕ, ◌%◌, ◌<◌, List, [], ◌∷◌, slice_index, ◌⊎◌}
 use Rattle.sigma_spl.specs.Copies.{loops_of, Copies, taken, pass_on, AreInside, StoreOnce}
-use Rattle.operators.specs.TensorPaths.Path.{AreInRange}
+use Rattle.operators.specs.Paths.Tensors.{AreInRange}
 
 -- one of the loops
 abbrev pub IsAmong : List Copies → Copies → Type 0

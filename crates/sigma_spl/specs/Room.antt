@@ -1,7 +1,7 @@
 -- Paths and factors whose sizes are words.
 use Rattle.std.specs.Prelude.{ℕ, ◌*◌, ◌^◌, ◌<◌, [], ◌∷◌}
 use Rattle.sigma_spl.specs.Nest.{PlainFactors, values, twiddles, repeated, spread, factor_count}
-use Rattle.operators.specs.TensorPaths.Path.{Path, size_under}
+use Rattle.operators.specs.Paths.Tensors.{Path, size_under}
 
 -- the whole, and what is under each of its tensors
 abbrev pub HasRoom : Path → ℕ → Type 0

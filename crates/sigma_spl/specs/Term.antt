@@ -7,7 +7,7 @@ use Rattle.sigma_spl.specs.Copies.{Copies, pass_on, both}
 pub use Rattle.sigma_spl.specs.Nest.{inner_of}
 use Rattle.sigma_spl.specs.Nest.{PlainFactors, factor_count, factor_at}
 use Rattle.sigma_spl.specs.Work.{PlainWork, work_size, work_on}
-use Rattle.operators.specs.TensorPaths.Path.{Path, count_of, place, under}
+use Rattle.operators.specs.Paths.Tensors.{Path, count_of, place, under}
 
 pub data PlainTerm : Type 0 where
   -- the identity

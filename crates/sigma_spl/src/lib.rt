@@ -8,14 +8,14 @@ ghost use Rattle.sigma_spl.specs.Horner.{HornerRow};
 ghost use Rattle.sigma_spl.specs.Limits.{MergeLimits};
 ghost use Rattle.sigma_spl.specs.Loops.{LoopsAreGood, LoopsHavePlaces, MergeListed};
 ghost use Rattle.sigma_spl.specs.Places.{PassStores};
-ghost use Rattle.sigma_spl.specs.PlainTerms.Shape.{GoodSigmasFit};
+ghost use Rattle.sigma_spl.specs.Plain.Shape.{GoodSigmasFit};
 ghost use Rattle.sigma_spl.specs.Sigma.{SigmaMerges};
 ghost use Rattle.sigma_spl.specs.CopiesLaws.{KeepsOnce, LoadsGather, LoopsScale, StandSideBySide, StandUnder, StoresScatter};
 
 mod copies;
 mod items;
 mod nest;
-mod plain_terms;
+mod plain;
 mod sizes;
 mod term;
 mod variables;

@@ -1,7 +1,7 @@
 // The sizes of matrices under the tensors of a path.
 ghost use Rattle.std.specs.Prelude.{◌≡◌};
 ghost use Rattle.sigma_spl.specs.Room.{HasRoom};
-ghost use Rattle.operators.specs.TensorPaths.Path.{size_under};
+ghost use Rattle.operators.specs.Paths.Tensors.{size_under};
 
 use operators::Tensor;
 

@@ -1,6 +1,6 @@
 // What the variables of a nest run below. Most nests have few loops, so these lists take no memory of an allocator.
 ghost use Rattle.std.specs.Prelude.{◌≡◌, ◌++◌, ◌∷◌, [], IfOk, map};
-ghost use Rattle.operators.specs.TensorPaths.Path.{count_of};
+ghost use Rattle.operators.specs.Paths.Tensors.{count_of};
 
 use memory::NoMemory;
 use operators::Tensor;

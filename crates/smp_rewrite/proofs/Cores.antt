@@ -11,15 +11,15 @@ use Rattle.operators.proofs.Places.{stride_below}
 use Rattle.operators.proofs.Sums.{sum_below-same}
 use Rattle.sigma_spl.specs.Work.{PlainWork, kernel, rows, horner, tile, copy, trees_of, work_size, work_on}
 use Rattle.tree_model.specs.Trees.{PlainTrees, single, tensor, trees_size, trees_on}
-use Rattle.smp_rewrite.specs.LayoutSteps.Meaning.{core_size, core_on}
-use Rattle.smp_rewrite.specs.LayoutSteps.Step.{PlainCore, piece, turns, twiddles, thomas_in, thomas_out}
+use Rattle.smp_rewrite.specs.Layout.Meaning.{core_size, core_on}
+use Rattle.smp_rewrite.specs.Layout.Step.{PlainCore, piece, turns, twiddles, thomas_in, thomas_out}
 use Rattle.smp_rewrite.specs.Laws.{IsPermutation}
 use Rattle.smp_rewrite.proofs.Tensors.{reads-one_under}
-use Rattle.operators.specs.TensorPaths.Path.{Reads}
-use Rattle.operators.specs.declared.tensor_paths.Tensor.TheVariants.{Blocks}
+use Rattle.operators.specs.Paths.Tensors.{Reads}
+use Rattle.operators.specs.declared.paths.Tensor.TheVariants.{Blocks}
 use Rattle.tree_model.specs.Breakdown.{size_of}
 use Rattle.kernel_gen.proofs.Trees.{good_thomas_out_below, good_thomas_in_below}
-use Rattle.sigma_spl.proofs.PlainTerms.Copies.{gather_reads}
+use Rattle.sigma_spl.proofs.Plain.Copies.{gather_reads}
 
 reads-transform : (kind : Kind) (m n w : ℕ) → Reads n (transform kind m n w)
 reads-transform kind m n w x =

@@ -11,13 +11,13 @@ use Rattle.operators.specs.Identities.{turn}
 use Rattle.operators.specs.Operator.{on_columns, on_blocks}
 use Rattle.operators.proofs.Lists.{factor_positive}
 use Rattle.operators.proofs.Blocks.{columns_in_blocks, turn_in_blocks, blocks_in_blocks}
-use Rattle.smp_rewrite.specs.LayoutSteps.Meaning.{core_size, core_on, step_on, all_on}
-use Rattle.smp_rewrite.specs.LayoutSteps.Step.{PlainCore, piece, turns, twiddles, thomas_in, thomas_out, PlainStep}
-use Rattle.smp_rewrite.specs.LayoutSteps.Step.{step}
+use Rattle.smp_rewrite.specs.Layout.Meaning.{core_size, core_on, step_on, all_on}
+use Rattle.smp_rewrite.specs.Layout.Step.{PlainCore, piece, turns, twiddles, thomas_in, thomas_out, PlainStep}
+use Rattle.smp_rewrite.specs.Layout.Step.{step}
 use Rattle.operators.specs.declared.target.Target.{Target}
-use Rattle.smp_rewrite.proofs.LayoutSteps.StepMeanings.{all_on-append}
-use Rattle.operators.specs.declared.tensor_paths.Tensor.TheVariants.{Blocks, Columns}
-use Rattle.operators.specs.TensorPaths.Path.{Path, size_under, under}
+use Rattle.smp_rewrite.proofs.Layout.StepMeanings.{all_on-append}
+use Rattle.operators.specs.declared.paths.Tensor.TheVariants.{Blocks, Columns}
+use Rattle.operators.specs.Paths.Tensors.{Path, size_under, under}
 use Rattle.sigma_spl.specs.Work.{PlainWork}
 use Rattle.smp_rewrite.specs.Smp.{blocks, within, factor_step, smp_on}
 use Rattle.smp_rewrite.specs.Cut.{cut_factors, factors_of, first_count, cut}

@@ -1,4 +1,4 @@
-pub mod LayoutSteps
+pub mod Layout
 pub mod Sized
 pub mod Tensors
 pub mod Cores

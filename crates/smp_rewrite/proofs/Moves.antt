@@ -9,11 +9,11 @@ use Rattle.operators.proofs.Lists.{at-list_below, list_below-same_rows, row-of, 
 use Rattle.operators.proofs.Lists.{on_columns-same, on_blocks-same}
 use Rattle.operators.proofs.Places.{column_at, block_at}
 use Rattle.operators.proofs.WholeLines.{whole_lines}
-use Rattle.smp_rewrite.specs.LayoutSteps.Meaning.{core_size, core_on, step_on}
-use Rattle.smp_rewrite.specs.LayoutSteps.Step.{PlainCore, PlainStep, step}
-use Rattle.operators.specs.declared.tensor_paths.Tensor.{Tensor}
-use Rattle.operators.specs.declared.tensor_paths.Tensor.TheVariants.{Blocks, Columns}
-use Rattle.operators.specs.TensorPaths.Path.{Path, grown, size_under, one_under, under}
+use Rattle.smp_rewrite.specs.Layout.Meaning.{core_size, core_on, step_on}
+use Rattle.smp_rewrite.specs.Layout.Step.{PlainCore, PlainStep, step}
+use Rattle.operators.specs.declared.paths.Tensor.{Tensor}
+use Rattle.operators.specs.declared.paths.Tensor.TheVariants.{Blocks, Columns}
+use Rattle.operators.specs.Paths.Tensors.{Path, grown, size_under, one_under, under}
 use Rattle.smp_rewrite.specs.Laws.{step_size, IsPermutation, IsMove, MovesLines}
 use Rattle.smp_rewrite.proofs.Cores.{IsGather, core-gathers}
 

@@ -6,12 +6,12 @@ use Rattle.std.specs.List.{flat_map}
 use Rattle.std.proofs.Math.Nat.{mul-mod_right, div-add-mod'}
 use Rattle.std.proofs.lemmas.List.Elements.{All-nil, All-cons}
 use Rattle.operators.proofs.Lists.{factor_positive}
-use Rattle.smp_rewrite.specs.LayoutSteps.Meaning.{core_size}
+use Rattle.smp_rewrite.specs.Layout.Meaning.{core_size}
 use Rattle.operators.specs.declared.target.Target.{Target}
-use Rattle.smp_rewrite.specs.LayoutSteps.Step.{PlainCore, piece, turns, twiddles, thomas_in, thomas_out, PlainStep}
-use Rattle.smp_rewrite.specs.LayoutSteps.Step.{step}
-use Rattle.operators.specs.declared.tensor_paths.Tensor.TheVariants.{Blocks, Columns}
-use Rattle.operators.specs.TensorPaths.Path.{Path, size_under}
+use Rattle.smp_rewrite.specs.Layout.Step.{PlainCore, piece, turns, twiddles, thomas_in, thomas_out, PlainStep}
+use Rattle.smp_rewrite.specs.Layout.Step.{step}
+use Rattle.operators.specs.declared.paths.Tensor.TheVariants.{Blocks, Columns}
+use Rattle.operators.specs.Paths.Tensors.{Path, size_under}
 use Rattle.smp_rewrite.specs.Smp.{PlainFactor, blocks, within}
 use Rattle.smp_rewrite.specs.Cut.{cut_factors, factors_of, cut}
 use Rattle.smp_rewrite.specs.Laws.{step_size, width_of, IsMove, HasShape}

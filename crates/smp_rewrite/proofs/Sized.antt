@@ -2,16 +2,16 @@
 use Rattle.std.proofs.Common.{◌≡◌, ℕ, ◌*◌, ◌∙◌, List, [], ◌∷◌, ◌++◌}
 use Rattle.std.proofs.lemmas.List.Elements.{All-nil, All-cons}
 use Rattle.std.specs.Prelude.{All, map}
-use Rattle.operators.specs.declared.tensor_paths.Tensor.TheVariants.{Blocks, Columns}
-use Rattle.operators.specs.TensorPaths.Path.{Path, size_under}
-use Rattle.operators.proofs.TensorPaths.Under.{size_under-push}
+use Rattle.operators.specs.declared.paths.Tensor.TheVariants.{Blocks, Columns}
+use Rattle.operators.specs.Paths.Tensors.{Path, size_under}
+use Rattle.operators.proofs.Paths.Under.{size_under-push}
 use Rattle.tree_model.specs.declared.tree.Rule.{Rule}
 use Rattle.tree_model.specs.declared.tree.Rule.TheVariants.{Gt, Ct, Split, Dim}
-use Rattle.smp_rewrite.specs.LayoutSteps.Layout.{Layout, work, by, layout_size}
+use Rattle.smp_rewrite.specs.Layout.Tree.{Layout, work, by, layout_size}
 use Rattle.operators.specs.declared.target.Target.{Target}
-use Rattle.smp_rewrite.specs.LayoutSteps.Step.{PlainStep, rule_steps, steps_of}
-use Rattle.smp_rewrite.specs.declared.layout_steps.Step.{Step}
-use Rattle.smp_rewrite.specs.LayoutSteps.Views.{plain_step}
+use Rattle.smp_rewrite.specs.Layout.Step.{PlainStep, rule_steps, steps_of}
+use Rattle.smp_rewrite.specs.declared.layout.Step.{Step}
+use Rattle.smp_rewrite.specs.Layout.Views.{plain_step}
 use Rattle.smp_rewrite.specs.Laws.{step_size}
 
 abbrev pub AreOfSize : ℕ → List PlainStep → Type 0

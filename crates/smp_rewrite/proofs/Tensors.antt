@@ -8,10 +8,10 @@ use Rattle.operators.specs.Identities.{HasSize}
 use Rattle.operators.specs.Operator.{Operator, on_columns, on_blocks, column, block}
 use Rattle.operators.specs.Sum.{list_below}
 use Rattle.operators.proofs.Lists.{at-list_below, list_below-same, row-of, column-of, place_below, factor_positive}
-use Rattle.operators.specs.declared.tensor_paths.Tensor.{Tensor}
-use Rattle.operators.specs.declared.tensor_paths.Tensor.TheVariants.{Blocks, Columns}
-use Rattle.operators.specs.TensorPaths.Path.{Path, count_of, grown, size_under, copies_of, one_under, under, Reads}
-use Rattle.operators.proofs.TensorPaths.Under.{under-size, one_under-same}
+use Rattle.operators.specs.declared.paths.Tensor.{Tensor}
+use Rattle.operators.specs.declared.paths.Tensor.TheVariants.{Blocks, Columns}
+use Rattle.operators.specs.Paths.Tensors.{Path, count_of, grown, size_under, copies_of, one_under, under, Reads}
+use Rattle.operators.proofs.Paths.Under.{under-size, one_under-same}
 use Rattle.sigma_spl.specs.Good.{AreBlocks}
 use Rattle.smp_rewrite.specs.Smp.{within}
 

@@ -4,26 +4,26 @@ use Rattle.std.proofs.Common.{◌≡◌, ◌≢◌, ◌*◌, ◌/◌, ◌%◌, �
 use Rattle.std.proofs.Common.{subst, ◌∙◌, [], true, false}
 use Rattle.std.proofs.Math.Nat.{mul-mod_right, mul-div_right, zero-div}
 use Rattle.std.proofs.lemmas.Bool.Decides.{nat_tests}
-use Rattle.smp_rewrite.specs.LayoutSteps.Layout.{Layout, layout_size, layout_on, layout_of}
-use Rattle.smp_rewrite.specs.LayoutSteps.Whole.{Whole, closed_on, closing_cost, whole_on}
+use Rattle.smp_rewrite.specs.Layout.Tree.{Layout, layout_size, layout_on, layout_of}
+use Rattle.smp_rewrite.specs.Layout.Whole.{Whole, closed_on, closing_cost, whole_on}
 use Rattle.smp_rewrite.specs.Cut.{layout_smp, smp_of}
 use Rattle.smp_rewrite.specs.Smp.{by_phase, shares_in, smp_on}
 use Rattle.std.specs.Prelude.{◌∷◌, ◌==◌, if◌then◌else◌, Bool, Option, None, Some}
 use Rattle.std.specs.List.{sum}
 use Rattle.std.proofs.lemmas.Bool.{cases_eq}
-use Rattle.smp_rewrite.specs.LayoutSteps.Step.{steps_of}
+use Rattle.smp_rewrite.specs.Layout.Step.{steps_of}
 use Rattle.sigma_spl.specs.Shared.Targets.{target_of}
 use Rattle.operators.specs.declared.target.Target.{Target}
-use Rattle.smp_rewrite.proofs.LayoutSteps.StepCosts.{steps_cost}
-use Rattle.smp_rewrite.proofs.LayoutSteps.StepMeanings.{steps_do}
+use Rattle.smp_rewrite.proofs.Layout.StepCosts.{steps_cost}
+use Rattle.smp_rewrite.proofs.Layout.StepMeanings.{steps_do}
 use Rattle.smp_rewrite.specs.Laws.{HasEqualParts, LayoutsFit, SmpTransforms, SmpCosts, SmpShaped}
 use Rattle.smp_rewrite.specs.Fits.{RuleHasParts, RootHasParts, CanShareLayout}
 use Rattle.matrix_meaning.specs.declared.Kind.{Kind}
 use Rattle.matrix_meaning.specs.declared.Kind.TheVariants.{Dft, Wht, Idft}
 use Rattle.matrix_meaning.specs.declared.Request.{Request}
 use Rattle.matrix_meaning.specs.Parts.{forward_by, forward_of}
-use Rattle.smp_rewrite.proofs.LayoutSteps.Layouts.{layouts_have_size, node-pick}
-use Rattle.smp_rewrite.proofs.LayoutSteps.Wholes.{forward_fits}
+use Rattle.smp_rewrite.proofs.Layout.Layouts.{layouts_have_size, node-pick}
+use Rattle.smp_rewrite.proofs.Layout.Wholes.{forward_fits}
 use Rattle.tree_model.specs.Admissible.{RootFits, RuleFits}
 use Rattle.tree_model.specs.Breakdown.{Breakdown, leaf, node, size_of}
 use Rattle.tree_model.specs.Cost.{is_plain, is_kernel}

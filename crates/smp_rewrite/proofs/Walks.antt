@@ -22,13 +22,13 @@ use Rattle.matrix_meaning.specs.declared.Kind.TheVariants.{Dft, Wht, Idft}
 use Rattle.matrix_meaning.specs.declared.Request.{Request}
 use Rattle.smp_rewrite.specs.Walk.{body_of, closing_in, node_steps, tree_steps}
 use Rattle.spl_ast.specs.Formula.{Formula}
-use Rattle.smp_rewrite.specs.LayoutSteps.Layout.{Layout, work, by, layout_size, layout_of, node_work}
-use Rattle.smp_rewrite.specs.LayoutSteps.Step.{PlainStep, step, turns, twiddles, thomas_in, thomas_out, rule_steps}
-use Rattle.smp_rewrite.specs.LayoutSteps.Step.{steps_of}
-use Rattle.smp_rewrite.specs.LayoutSteps.Whole.{factor_by}
-use Rattle.smp_rewrite.proofs.LayoutSteps.Layouts.{layouts_have_size}
-use Rattle.operators.specs.TensorPaths.Path.{Path}
-use Rattle.operators.specs.declared.tensor_paths.Tensor.TheVariants.{Blocks, Columns}
+use Rattle.smp_rewrite.specs.Layout.Tree.{Layout, work, by, layout_size, layout_of, node_work}
+use Rattle.smp_rewrite.specs.Layout.Step.{PlainStep, step, turns, twiddles, thomas_in, thomas_out, rule_steps}
+use Rattle.smp_rewrite.specs.Layout.Step.{steps_of}
+use Rattle.smp_rewrite.specs.Layout.Whole.{factor_by}
+use Rattle.smp_rewrite.proofs.Layout.Layouts.{layouts_have_size}
+use Rattle.operators.specs.Paths.Tensors.{Path}
+use Rattle.operators.specs.declared.paths.Tensor.TheVariants.{Blocks, Columns}
 use Rattle.tree_model.specs.Breakdown.{Breakdown, leaf, node, size_of, IsTree}
 use Rattle.tree_model.specs.Cost.{is_kernel, node_root}
 use Rattle.tree_model.specs.Whole.{left_of, right_of}

@@ -1,9 +1,9 @@
 -- Steps that are added to those that were there.
 use Rattle.std.specs.Prelude.{◌≡◌, List, ◌++◌, map, Vec}
 use Rattle.std.proofs.Common.{Global}
-use Rattle.smp_rewrite.specs.LayoutSteps.Step.{PlainStep}
-use Rattle.smp_rewrite.specs.LayoutSteps.Views.{plain_step}
-use Rattle.smp_rewrite.specs.declared.layout_steps.Step.{Step}
+use Rattle.smp_rewrite.specs.Layout.Step.{PlainStep}
+use Rattle.smp_rewrite.specs.Layout.Views.{plain_step}
+use Rattle.smp_rewrite.specs.declared.layout.Step.{Step}
 
 -- the new steps are the old ones, and then these
 abbrev pub Appends : Vec Step Global → Vec Step Global → List PlainStep → Type 0

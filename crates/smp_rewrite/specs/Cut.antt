@@ -2,13 +2,13 @@
 use Rattle.std.specs.Prelude.{ℕ, suc, ◌/◌, ◌==◌, Bool, true, false, if◌then◌else◌, List, [], ◌∷◌, length, take, drop}
 use Rattle.std.specs.Prelude.{Option, None}
 use Rattle.std.specs.List.{flat_map}
-use Rattle.smp_rewrite.specs.LayoutSteps.Layout.{Layout}
-use Rattle.smp_rewrite.specs.LayoutSteps.Whole.{Whole}
+use Rattle.smp_rewrite.specs.Layout.Tree.{Layout}
+use Rattle.smp_rewrite.specs.Layout.Whole.{Whole}
 use Rattle.operators.specs.declared.target.Target.{Target}
-use Rattle.smp_rewrite.specs.LayoutSteps.Step.{PlainCore, piece, turns, twiddles, thomas_in, thomas_out, PlainStep}
-use Rattle.smp_rewrite.specs.LayoutSteps.Step.{step, steps_of}
-use Rattle.operators.specs.declared.tensor_paths.Tensor.TheVariants.{Blocks, Columns}
-use Rattle.operators.specs.TensorPaths.Path.{Path}
+use Rattle.smp_rewrite.specs.Layout.Step.{PlainCore, piece, turns, twiddles, thomas_in, thomas_out, PlainStep}
+use Rattle.smp_rewrite.specs.Layout.Step.{step, steps_of}
+use Rattle.operators.specs.declared.paths.Tensor.TheVariants.{Blocks, Columns}
+use Rattle.operators.specs.Paths.Tensors.{Path}
 use Rattle.smp_rewrite.specs.Smp.{PlainFactor, blocks, diagonals, move_before, move_after, PlainSmp, within}
 
 -- a permutation of whole lines or a diagonal, as it is

@@ -1,7 +1,7 @@
 -- Layouts that processors and lanes can share.
 use Rattle.std.specs.Prelude.{◌≡◌, ℕ, ◌*◌, ◌%◌, ◌<◌, ◌≤◌, false}
 use Rattle.operators.specs.Sizes.{max_size}
-use Rattle.smp_rewrite.specs.LayoutSteps.Layout.{Layout, work, by, layout_size}
+use Rattle.smp_rewrite.specs.Layout.Tree.{Layout, work, by, layout_size}
 use Rattle.sigma_spl.specs.Shared.Targets.{is_alone}
 use Rattle.operators.specs.declared.target.Target.{Target}
 use Rattle.tree_model.specs.Admissible.{DividesBoth}

@@ -6,14 +6,14 @@ use Rattle.matrix_meaning.specs.Parts.{forward_of}
 use Rattle.matrix_meaning.specs.Valid.{IsValid}
 use Rattle.operators.specs.Identities.{MovesWholeLines}
 use Rattle.operators.specs.Operator.{gather}
-use Rattle.smp_rewrite.specs.LayoutSteps.Layout.{layout_of}
-use Rattle.smp_rewrite.specs.LayoutSteps.Whole.{Whole, IsGoodWhole, whole_of, whole_on, whole_operations}
+use Rattle.smp_rewrite.specs.Layout.Tree.{layout_of}
+use Rattle.smp_rewrite.specs.Layout.Whole.{Whole, IsGoodWhole, whole_of, whole_on, whole_operations}
 use Rattle.sigma_spl.specs.Shared.Targets.{target_of}
 use Rattle.operators.specs.declared.target.Target.{Target}
-use Rattle.smp_rewrite.specs.LayoutSteps.Meaning.{core_size, step_on}
-use Rattle.smp_rewrite.specs.LayoutSteps.Step.{PlainCore, piece, turns, twiddles, thomas_in, thomas_out, PlainStep}
-use Rattle.operators.specs.declared.tensor_paths.Tensor.TheVariants.{Blocks, Columns}
-use Rattle.operators.specs.TensorPaths.Path.{Path, size_under}
+use Rattle.smp_rewrite.specs.Layout.Meaning.{core_size, step_on}
+use Rattle.smp_rewrite.specs.Layout.Step.{PlainCore, piece, turns, twiddles, thomas_in, thomas_out, PlainStep}
+use Rattle.operators.specs.declared.paths.Tensor.TheVariants.{Blocks, Columns}
+use Rattle.operators.specs.Paths.Tensors.{Path, size_under}
 use Rattle.tree_model.specs.Breakdown.{Breakdown}
 use Rattle.tree_model.specs.Chosen.{IsWholeTree}
 use Rattle.smp_rewrite.specs.Fits.{CanShareLayout}

@@ -1,4 +1,4 @@
-pub mod LayoutSteps
+pub mod Layout
 pub mod Smp
 pub mod Walk
 pub mod Appends

@@ -1,13 +1,13 @@
 -- Formulas for processors: a list of factors, each of which every processor has an equal part in.
 use Rattle.std.specs.Prelude.{ℕ, ◌+◌, ◌/◌, ◌==◌, if◌then◌else◌, List, [], ◌∷◌, ◌++◌, map, Option}
 use Rattle.operators.specs.Operator.{Operator}
-use Rattle.smp_rewrite.specs.LayoutSteps.Meaning.{all_on}
-use Rattle.smp_rewrite.specs.LayoutSteps.Whole.{closed_on, closing_cost}
+use Rattle.smp_rewrite.specs.Layout.Meaning.{all_on}
+use Rattle.smp_rewrite.specs.Layout.Whole.{closed_on, closing_cost}
 use Rattle.operators.specs.declared.target.Target.{Target}
-use Rattle.smp_rewrite.specs.LayoutSteps.Step.{PlainStep, step, operations_of}
-use Rattle.operators.specs.declared.tensor_paths.Tensor.{Tensor}
-use Rattle.operators.specs.declared.tensor_paths.Tensor.TheVariants.{Blocks}
-use Rattle.operators.specs.TensorPaths.Path.{Path, count_of}
+use Rattle.smp_rewrite.specs.Layout.Step.{PlainStep, step, operations_of}
+use Rattle.operators.specs.declared.paths.Tensor.{Tensor}
+use Rattle.operators.specs.declared.paths.Tensor.TheVariants.{Blocks}
+use Rattle.operators.specs.Paths.Tensors.{Path, count_of}
 
 -- the same block for each processor; a diagonal of an equal length for
 -- each; or a move of whole lines, merged into what comes after or before it

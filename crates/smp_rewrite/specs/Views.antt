@@ -1,6 +1,6 @@
 -- What the code's formulas stand for.
 use Rattle.std.specs.Prelude.{map}
-use Rattle.smp_rewrite.specs.LayoutSteps.Views.{plain_step}
+use Rattle.smp_rewrite.specs.Layout.Views.{plain_step}
 use Rattle.smp_rewrite.specs.Smp.{PlainFactor, blocks, diagonals, move_before, move_after, PlainSmp}
 use Rattle.smp_rewrite.specs.declared.Factor.{Factor}
 use Rattle.smp_rewrite.specs.declared.Factor.TheVariants.{Blocks, Diagonals, MoveBefore, MoveAfter}

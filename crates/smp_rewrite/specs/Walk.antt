@@ -1,12 +1,12 @@
 -- The steps of a tree by a walk over its formula: tensor products go to its parts, and other matrices are steps.
 use Rattle.std.specs.Prelude.{ℕ, ◌*◌, ◌/◌, Bool, true, if◌then◌else◌, List, [], ◌∷◌, ◌++◌, Option, Some, None}
 use Rattle.matrix_meaning.specs.declared.Request.{Request}
-use Rattle.smp_rewrite.specs.LayoutSteps.Layout.{node_work}
-use Rattle.smp_rewrite.specs.LayoutSteps.Step.{PlainStep, step, piece, turns, twiddles, thomas_in, thomas_out}
+use Rattle.smp_rewrite.specs.Layout.Tree.{node_work}
+use Rattle.smp_rewrite.specs.Layout.Step.{PlainStep, step, piece, turns, twiddles, thomas_in, thomas_out}
 use Rattle.spl_ast.specs.Formula.{Formula, Identity, Fourier, Hadamard, Twiddles, Diagonal, Stride, Permutation}
 use Rattle.spl_ast.specs.Formula.{GoodThomasIn, GoodThomasOut, Product, TensorLeft, TensorRight, DirectSum, Pending}
-use Rattle.operators.specs.declared.tensor_paths.Tensor.TheVariants.{Blocks, Columns}
-use Rattle.operators.specs.TensorPaths.Path.{Path}
+use Rattle.operators.specs.declared.paths.Tensor.TheVariants.{Blocks, Columns}
+use Rattle.operators.specs.Paths.Tensors.{Path}
 use Rattle.tree_model.specs.Breakdown.{Breakdown, leaf, node, size_of}
 use Rattle.tree_model.specs.Cost.{is_kernel}
 use Rattle.tree_model.specs.Whole.{left_of, right_of}

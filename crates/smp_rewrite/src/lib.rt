@@ -3,7 +3,7 @@
 #![tactic(auto)]
 
 mod closing;
-mod layout_steps;
+mod layout;
 mod walk;
 
 ghost use Rattle.std.specs.Prelude.{◌≡◌, ◌+◌, ◌*◌, ◌<◌, ◌≤◌, [], ◌∷◌, ◌++◌, All, IfOk, List, OnOk, drop, length, map, ℕ};
@@ -12,10 +12,10 @@ ghost use Rattle.breakdown.specs.Expansion.{formula_of};
 ghost use Rattle.matrix_meaning.specs.Asked.{asked_of};
 ghost use Rattle.spl_ast.specs.Meaning.{apply};
 ghost use Rattle.sigma_spl.specs.Shared.Targets.{target_of};
-ghost use Rattle.smp_rewrite.specs.LayoutSteps.Step.{step, turns};
-ghost use Rattle.smp_rewrite.specs.LayoutSteps.Views.{plain_core, plain_step};
-ghost use Rattle.smp_rewrite.specs.LayoutSteps.Whole.{whole_of};
-ghost use Rattle.operators.specs.declared.tensor_paths.Tensor.TheVariants.{Columns};
+ghost use Rattle.smp_rewrite.specs.Layout.Step.{step, turns};
+ghost use Rattle.smp_rewrite.specs.Layout.Views.{plain_core, plain_step};
+ghost use Rattle.smp_rewrite.specs.Layout.Whole.{whole_of};
+ghost use Rattle.operators.specs.declared.paths.Tensor.TheVariants.{Columns};
 ghost use Rattle.tree_model.specs.Breakdown.{breakdown_of};
 ghost use Rattle.tree_model.specs.Chosen.{IsWholeTree, whole_cost};
 ghost use Rattle.smp_rewrite.specs.Cut.{cut, closed_cut, cut_factors, factors_of, first_count, is_left, right_count, smp_of, whole_factor};
@@ -25,7 +25,7 @@ ghost use Rattle.smp_rewrite.specs.Views.{plain_factor, plain_smp};
 
 use crate::closing::{body_of, closing_in};
 use crate::walk::steps_by;
-pub use layout_steps::{Core, Step, layouts_do, steps_cost, steps_do, target_of, wholes_do};
+pub use layout::{Core, Step, layouts_do, steps_cost, steps_do, target_of, wholes_do};
 use memory::NoMemory;
 use operators::{Target, Tensor};
 use spl_ast::Spl;

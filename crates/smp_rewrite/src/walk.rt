@@ -3,13 +3,13 @@ ghost use Rattle.std.specs.Prelude.{◌≡◌, ◌∷◌, ◌++◌, [], IfOk, On
 ghost use Rattle.sigma_spl.specs.Views.{plain_work};
 ghost use Rattle.smp_rewrite.specs.Appends.{Appends};
 ghost use Rattle.smp_rewrite.specs.Walk.{is_piece, left_part, left_request, node_steps, right_part, right_request, tree_steps};
-ghost use Rattle.smp_rewrite.specs.LayoutSteps.Layout.{node_work};
+ghost use Rattle.smp_rewrite.specs.Layout.Tree.{node_work};
 ghost use Rattle.kernel_gen.specs.Nodes.{IsNodeTree};
-ghost use Rattle.smp_rewrite.specs.LayoutSteps.Step.{step};
-ghost use Rattle.smp_rewrite.specs.LayoutSteps.Views.{plain_core, plain_step};
+ghost use Rattle.smp_rewrite.specs.Layout.Step.{step};
+ghost use Rattle.smp_rewrite.specs.Layout.Views.{plain_core, plain_step};
 ghost use Rattle.tree_model.specs.Breakdown.{breakdown_of, HasWordSizes};
 
-use crate::layout_steps::{Core, Step};
+use crate::layout::{Core, Step};
 use matrix_meaning::Kind;
 use memory::NoMemory;
 use operators::Tensor;

@@ -3,16 +3,16 @@ use Rattle.std.proofs.Common.{◌≡◌, ◌≤◌, ◌<◌, ◌^◌, ◌∙◌,
 use Rattle.std.proofs.Common.{sym}
 use Rattle.std.proofs.lemmas.List.Elements.{All-nil}
 use Rattle.std.specs.declared.option.Option.{Option}
-use Rattle.commands.specs.ConvolutionCommands.ConvPlanned.{IsConvPlanned}
-use Rattle.commands.specs.ConvolutionCommands.Convolving.{IsConvRequest}
+use Rattle.commands.specs.Convolutions.ConvPlanned.{IsConvPlanned}
+use Rattle.commands.specs.Convolutions.Convolving.{IsConvRequest}
 use Rattle.commands.specs.Emission.Whole.{conv_emission}
 use Rattle.commands.specs.Equations.Formulas.{formed}
 use Rattle.commands.specs.Equations.Front.{line}
-use Rattle.commands.specs.FormulaCommands.Letters.{program_for}
+use Rattle.commands.specs.Formulas.Letters.{program_for}
 use Rattle.commands.specs.Good.{IsVector}
 use Rattle.commands.specs.Input.Commands.{admitted, first_stranger}
-use Rattle.commands.proofs.FormulaCommands.Programs.{formula_programs_are_code}
-use Rattle.commands.proofs.FormulaCommands.Shaped.{written_few, written_shaped}
+use Rattle.commands.proofs.Formulas.Programs.{formula_programs_are_code}
+use Rattle.commands.proofs.Formulas.Shaped.{written_few, written_shaped}
 use Rattle.commands.proofs.GoodPrograms.{conv_programs_convolve}
 use Rattle.listing_text.specs.Listing.{listing_of}
 use Rattle.matrix_meaning.specs.Convolution.{convolution}

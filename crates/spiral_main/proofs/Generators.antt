@@ -15,7 +15,7 @@ use Rattle.commands.specs.Equations.Plan.{plan_outcomes}
 use Rattle.commands.specs.Equations.Run.{run_outcomes}
 use Rattle.commands.specs.Equations.Sample.{sample_outcomes}
 use Rattle.commands.specs.Equations.Trace.{trace_outcomes}
-use Rattle.commands.specs.FormulaCommands.Letters.{program_for}
+use Rattle.commands.specs.Formulas.Letters.{program_for}
 use Rattle.commands.specs.Input.Outcomes.{Outcomes}
 use Rattle.commands.proofs.Inputs.Within.{Within}
 use Rattle.spiral_words.specs.declared.Command.{Command}

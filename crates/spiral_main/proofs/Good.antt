@@ -1,8 +1,8 @@
 -- What the commands that write a program answer for a right line, where the program's statements are forgotten.
 use Rattle.std.proofs.Common.{◌≡◌, ◌≤◌, ℕ, true, List, [], ◌∷◌, Ok, refl, arith, inr, codes}
 use Rattle.c_print.specs.CText.{c_text_of}
-use Rattle.commands.specs.ConvolutionCommands.ConvPlanned.{IsConvPlanned}
-use Rattle.commands.specs.ConvolutionCommands.Convolving.{IsConvRequest}
+use Rattle.commands.specs.Convolutions.ConvPlanned.{IsConvPlanned}
+use Rattle.commands.specs.Convolutions.Convolving.{IsConvRequest}
 use Rattle.commands.specs.Emission.Whole.{conv_emission, emission}
 use Rattle.commands.specs.Equations.Commands.{outcomes_of}
 use Rattle.commands.specs.Equations.Convolve.{convolver_outcomes, convolver_work}
@@ -11,11 +11,11 @@ use Rattle.commands.specs.Equations.Orders.{Planned, planned}
 use Rattle.commands.specs.Equations.Trace.{trace_outcomes, trace_work}
 use Rattle.commands.specs.Equations.Convolutions.{conv_planned}
 use Rattle.commands.specs.Equations.Works.{all, the_first, by_first, status_by}
-use Rattle.commands.specs.FormulaCommands.Code.{IsCodeOf}
-use Rattle.commands.specs.FormulaCommands.Letters as formulas
+use Rattle.commands.specs.Formulas.Code.{IsCodeOf}
+use Rattle.commands.specs.Formulas.Letters as formulas
 use Rattle.commands.specs.GoodPrograms.{FormulaProgramsAreCode}
 use Rattle.commands.specs.Input.Orders.{procs_in}
-use Rattle.commands.proofs.FormulaCommands.Shaped.{written_few, written_shaped}
+use Rattle.commands.proofs.Formulas.Shaped.{written_few, written_shaped}
 use Rattle.commands.proofs.GoodPrograms.{conv_programs_convolve, programs_are_good}
 use Rattle.icode.specs.Plain.{PlainProgram}
 use Rattle.listing_text.specs.Listing.{listing_of}

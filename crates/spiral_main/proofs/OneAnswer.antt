@@ -2,7 +2,7 @@
 use Rattle.std.proofs.Common.{◌≡◌, ◌++◌, ℕ, Bool, true, false, List, [], Ok, Err, Result, sym, ap, ap₂, ◌∙◌}
 use Rattle.c_print.specs.CText.{c_text_of}
 use Rattle.commands.specs.Emission.Whole.{conv_emission}
-use Rattle.commands.specs.FormulaCommands.Letters as formulas
+use Rattle.commands.specs.Formulas.Letters as formulas
 use Rattle.commands.specs.Emission.Whole.{emission}
 use Rattle.listing_text.specs.Listing.{listing_of}
 use Rattle.matrix_meaning.specs.Asked.{asked_of}
@@ -29,10 +29,10 @@ use Rattle.spl_ast.specs.Formula.{Formula, size_of}
 use Rattle.spl_ast.specs.Meaning as meanings
 use Rattle.spiral_words.specs.declared.statuses.status.Status.{Status}
 use Rattle.tree_model.specs.Breakdown.{Breakdown}
-use Rattle.commands.proofs.ConvolutionCommands.OneConvolution.{conv_planned_decided, request_clash, same_fault}
-use Rattle.commands.proofs.ConvolutionCommands.OneConvolution.{same_request}
-use Rattle.commands.proofs.FormulaCommands.OneFormula.{formed_decided, written_decided}
-use Rattle.commands.proofs.ListingCommands.OneExecution.{loaded_decided}
+use Rattle.commands.proofs.Convolutions.OneConvolution.{conv_planned_decided, request_clash, same_fault}
+use Rattle.commands.proofs.Convolutions.OneConvolution.{same_request}
+use Rattle.commands.proofs.Formulas.OneFormula.{formed_decided, written_decided}
+use Rattle.commands.proofs.Listings.OneExecution.{loaded_decided}
 use Rattle.commands.proofs.Inputs.Stages.{IsDecided, bind_decided, done, ended, given_decided}
 use Rattle.commands.specs.Equations.Apply.{apply_work}
 use Rattle.commands.specs.Equations.Check.{fitting}
@@ -49,7 +49,7 @@ use Rattle.commands.specs.Equations.Run.{run_work}
 use Rattle.commands.specs.Equations.Sample.{sample_lines}
 use Rattle.commands.specs.Equations.Trace.{run_lines, trace_work}
 use Rattle.commands.specs.Equations.Works.{all, a_first, the_first, judging, writing}
-use Rattle.commands.specs.ListingCommands.Listed.{loaded, result_of}
+use Rattle.commands.specs.Listings.Listed.{loaded, result_of}
 use Rattle.commands.specs.PlanText.{plan_text}
 use Rattle.commands.specs.Input.Asking.{spelt}
 use Rattle.commands.specs.Input.Commands.{admitted, first_stranger}

@@ -39,14 +39,14 @@ use Rattle.commands.specs.Equations.Requests.{document_outcomes, document_work, 
 use Rattle.commands.specs.Equations.Run.{run_work}
 use Rattle.commands.specs.Equations.Trace.{trace_work}
 use Rattle.commands.specs.Equations.Works.{a_first, judging, status_by, the_first}
-use Rattle.commands.specs.ListingCommands.Listed.{loaded}
+use Rattle.commands.specs.Listings.Listed.{loaded}
 use Rattle.commands.specs.Input.Asking.{spelt}
 use Rattle.commands.specs.Input.Commands.{procs_named}
 use Rattle.commands.specs.Input.Orders.{procs_in}
 use Rattle.commands.specs.Input.Stage.{Stage, ◌>>=◌}
-use Rattle.commands.proofs.ConvolutionCommands.OneConvolution.{conv_planned_decided}
-use Rattle.commands.proofs.FormulaCommands.OneFormula.{formed_decided, written_decided}
-use Rattle.commands.proofs.ListingCommands.OneExecution.{loaded_decided}
+use Rattle.commands.proofs.Convolutions.OneConvolution.{conv_planned_decided}
+use Rattle.commands.proofs.Formulas.OneFormula.{formed_decided, written_decided}
+use Rattle.commands.proofs.Listings.OneExecution.{loaded_decided}
 use Rattle.commands.proofs.Inputs.Stages.{IsDecided, answer_for}
 use Rattle.spiral_main.specs.Outcome.{Accounts, IsOutcome}
 use Rattle.spiral_main.specs.Right.{AreRightData, AreRightVectors, BeginWithList, HasBudgetFor, IsRightCall}

@@ -20,13 +20,13 @@ use Rattle.spiral_words.specs.Statuses.Fault.{status_of_stream}
 use Rattle.spiral_words.specs.declared.statuses.status.Status.{Status}
 use Rattle.spiral_words.specs.declared.statuses.status.Status.TheVariants.{Success, ReadFault, WriteFault}
 use Rattle.spiral_words.specs.declared.statuses.status.Status.TheVariants.{NoMemory}
-use Rattle.commands.specs.FormulaCommands.Letters.{program_for}
+use Rattle.commands.specs.Formulas.Letters.{program_for}
 use Rattle.listing_text.specs.Listing.{listing_of}
 use Rattle.commands.specs.Equations.Compile.{compile_outcomes}
 use Rattle.commands.specs.Equations.Convolutions.{conv_planned, conv_spelt}
 use Rattle.commands.specs.Equations.Exec.{exec_outcomes, exec_work}
 use Rattle.commands.specs.Equations.Formulas.{formed, written}
-use Rattle.commands.specs.ListingCommands.Listed.{loaded, result_of}
+use Rattle.commands.specs.Listings.Listed.{loaded, result_of}
 use Rattle.commands.specs.Input.Asking.{spelt}
 use Rattle.commands.specs.Input.Commands.{admitted, first_stranger}
 use Rattle.commands.specs.Input.Stage.{Stage, ◌>>=◌}

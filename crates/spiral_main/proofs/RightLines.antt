@@ -3,7 +3,7 @@ use Rattle.std.proofs.Common.{◌≡◌, ◌≤◌, ℕ, Bool, true, false, List
 use Rattle.std.proofs.Common.{refl, sym, subst, arith}
 use Rattle.std.proofs.lemmas.Grind.{common_steps}
 use Rattle.commands.proofs.Inputs.Stages.{admitted_same, done, done_ended, done_same}
-use Rattle.commands.specs.ConvolutionCommands.ConvPlanned.{IsConvPlanned}
+use Rattle.commands.specs.Convolutions.ConvPlanned.{IsConvPlanned}
 use Rattle.commands.specs.Equations.Convolutions.{conv_planned, conv_spelt}
 use Rattle.commands.specs.Equations.Formulas.{written}
 use Rattle.commands.specs.Equations.Front.{Front, line, ordered, taken_from}

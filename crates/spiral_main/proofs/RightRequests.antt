@@ -3,8 +3,8 @@ use Rattle.std.proofs.Common.{◌≡◌, ◌≢◌, ℕ, ◌≤◌, List, [], �
 use Rattle.std.specs.Prelude.{All, if◌then◌else◌, map}
 use Rattle.std.proofs.lemmas.Bool.{and_from, eq-eqb}
 use Rattle.std.proofs.lemmas.List.Elements.{All-head, All-tail}
-use Rattle.commands.specs.ConvolutionCommands.Convolving.{IsConvRequest}
-use Rattle.commands.specs.ConvolutionCommands.ConvPlanned.{HasPrincipalRoot, IsConvPlanned, both_halves}
+use Rattle.commands.specs.Convolutions.Convolving.{IsConvRequest}
+use Rattle.commands.specs.Convolutions.ConvPlanned.{HasPrincipalRoot, IsConvPlanned, both_halves}
 use Rattle.matrix_meaning.specs.Parts.{bad_power_by, first_bad, part_of, parts_in, root_power}
 use Rattle.matrix_meaning.specs.Valid.{HasRoot, IsInRange, IsValid}
 use Rattle.matrix_meaning.specs.declared.Dimension.{Dimension}

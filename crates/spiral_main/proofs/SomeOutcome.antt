@@ -5,7 +5,7 @@ use Rattle.std.proofs.lemmas.Bool.{cases_lt}
 use Rattle.c_print.specs.CText.{c_text_of}
 use Rattle.listing_text.specs.Listing.{listing_of}
 use Rattle.matrix_meaning.specs.Asked.{asked_of}
-use Rattle.commands.specs.ConvolutionCommands.Convolution.{convolution}
+use Rattle.commands.specs.Convolutions.Convolution.{convolution}
 use Rattle.matrix_meaning.specs.Valid.{IsInRange}
 use Rattle.matrix_meaning.specs.declared.Request.{Request}
 use Rattle.plan_cert.proofs.SomeTable.{some_certificate}
@@ -37,10 +37,10 @@ use Rattle.spl_ast.specs.Meaning as meanings
 use Rattle.spiral_words.specs.declared.statuses.status.Status.{Status}
 use Rattle.spiral_words.specs.declared.statuses.status.Status.TheVariants.{Success, TooLong, Usage}
 use Rattle.tree_model.specs.Breakdown.{Breakdown}
-use Rattle.commands.proofs.ConvolutionCommands.Existence.{conv_planned_has}
+use Rattle.commands.proofs.Convolutions.Existence.{conv_planned_has}
 use Rattle.commands.proofs.Existence.{plan_exists}
-use Rattle.commands.proofs.FormulaCommands.Written.{formula_written}
-use Rattle.commands.proofs.ListingCommands.Existence.{loaded_has}
+use Rattle.commands.proofs.Formulas.Written.{formula_written}
+use Rattle.commands.proofs.Listings.Existence.{loaded_has}
 use Rattle.commands.proofs.Inputs.Stages.{HasAnswer, both_have, given_has}
 use Rattle.commands.specs.Checked.{certificate_limit, status_of_verdict, verdict_text}
 use Rattle.commands.specs.Emission.Whole.{conv_emission}
@@ -62,8 +62,8 @@ use Rattle.commands.specs.Equations.Sample.{sample_lines}
 use Rattle.commands.specs.Equations.Trace.{run_lines, trace_work}
 use Rattle.commands.specs.Equations.Works.{Wants, a_first, all, by_first, judging, mapping, status_by, the_first}
 use Rattle.commands.specs.Equations.Works.{writing}
-use Rattle.commands.specs.FormulaCommands.Letters as formulas
-use Rattle.commands.specs.ListingCommands.Listed.{loaded, result_of}
+use Rattle.commands.specs.Formulas.Letters as formulas
+use Rattle.commands.specs.Listings.Listed.{loaded, result_of}
 use Rattle.commands.specs.Emission.Whole.{emission}
 use Rattle.commands.specs.PlanText.{plan_text}
 use Rattle.commands.specs.Planned.{IsPlanned}

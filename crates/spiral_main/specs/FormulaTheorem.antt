@@ -11,10 +11,10 @@
 --   vectors_read            the vectors of the data, up to the first fault
 use Rattle.std.specs.Prelude.{◌≡◌, ℕ, ◌*◌, ◌≤◌, true, false, List, ◌∷◌, length, None, Some, codes}
 use Rattle.std.specs.declared.option.Option.{Option}
-use Rattle.commands.specs.ConvolutionCommands.ConvPlanned.{conv_cost}
+use Rattle.commands.specs.Convolutions.ConvPlanned.{conv_cost}
 use Rattle.commands.specs.Equations.Front.{line}
 use Rattle.commands.specs.Equations.Orders.{Planned}
-use Rattle.commands.specs.FormulaCommands.Code as code
+use Rattle.commands.specs.Formulas.Code as code
 use Rattle.commands.specs.Good.{HasHeader, IsVector}
 use Rattle.commands.specs.Input.Commands.{first_stranger}
 use Rattle.icode.specs.Actions.{plain_code}

@@ -2,8 +2,8 @@
 use Rattle.std.specs.Prelude.{◌≡◌, ◌↔◌, ℕ, ◌^◌, ◌<◌, ◌≤◌, true, false, List, [], Ok}
 use Rattle.std.specs.declared.option.Option.{Option}
 use Rattle.c_print.specs.CText.{c_text_of}
-use Rattle.commands.specs.ConvolutionCommands.Convolving.{IsConvRequest}
-use Rattle.commands.specs.ConvolutionCommands.ConvPlanned.{IsConvPlanned}
+use Rattle.commands.specs.Convolutions.Convolving.{IsConvRequest}
+use Rattle.commands.specs.Convolutions.ConvPlanned.{IsConvPlanned}
 use Rattle.commands.specs.Equations.Apply.{apply_outcomes}
 use Rattle.commands.specs.Equations.Cert.{cert_outcomes}
 use Rattle.commands.specs.Equations.Check.{check_outcomes}

@@ -1,6 +1,6 @@
 -- What is right for the commands that write a program where its statements are forgotten.
 use Rattle.std.specs.Prelude.{◌≡◌, ◌++◌, ℕ, true, List, [], codes}
-use Rattle.commands.specs.ConvolutionCommands.Convolver.{IsConvolver}
+use Rattle.commands.specs.Convolutions.Convolver.{IsConvolver}
 use Rattle.commands.specs.Equations.Front.{line, room_behind}
 use Rattle.commands.specs.Equations.Orders.{Planned}
 use Rattle.commands.specs.Equations.Works.{by_first}

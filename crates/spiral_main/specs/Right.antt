@@ -4,8 +4,8 @@ use Rattle.std.specs.declared.option.Option.{Option}
 use Rattle.std.specs.Io.KnownBytes.{Appends}
 use Rattle.matrix_meaning.specs.declared.Request.{Request}
 use Rattle.matrix_meaning.specs.Valid.{IsValid}
-use Rattle.commands.specs.ConvolutionCommands.Convolving.{IsConvRequest}
-use Rattle.commands.specs.ConvolutionCommands.ConvPlanned.{HasPrincipalRoot, both_halves}
+use Rattle.commands.specs.Convolutions.Convolving.{IsConvRequest}
+use Rattle.commands.specs.Convolutions.ConvPlanned.{HasPrincipalRoot, both_halves}
 use Rattle.commands.specs.Planned.{IsRooted}
 use Rattle.tree_model.specs.Chosen.{CanDivideWhole, IsWholeLeast}
 use Rattle.plan_cert.specs.declared.verdict.Verdict.TheVariants.{Least}
@@ -27,7 +27,7 @@ use Rattle.commands.specs.Equations.Convolutions.{conv_spelt}
 use Rattle.commands.specs.Equations.Formulas.{formed, written}
 use Rattle.commands.specs.Equations.Front.{line, ordered, part, room_behind}
 use Rattle.commands.specs.Equations.Orders.{turned}
-use Rattle.commands.specs.ListingCommands.Listed.{loaded}
+use Rattle.commands.specs.Listings.Listed.{loaded}
 use Rattle.commands.specs.Input.Asking.{spelt}
 use Rattle.commands.specs.Input.Commands.{procs_named}
 use Rattle.commands.specs.Input.Stage.{Stage, ◌>>=◌}

@@ -5,7 +5,7 @@ use Rattle.data_stream.specs.Data.{tokens, is_good}
 use Rattle.commands.specs.Input.Asking.{spelt}
 use Rattle.commands.specs.Input.Commands.{first_stranger}
 use Rattle.runs.specs.Stream.{vectors_of}
-use Rattle.commands.specs.ConvolutionCommands.ConvPlanned.{IsConvPlanned}
+use Rattle.commands.specs.Convolutions.ConvPlanned.{IsConvPlanned}
 use Rattle.commands.specs.Equations.Convolutions.{conv_spelt}
 use Rattle.commands.specs.Equations.Formulas.{written}
 use Rattle.commands.specs.Planned.{IsPlanned}

@@ -18,7 +18,7 @@ ghost use Rattle.commands.specs.Equations.Convolutions.{conv_planned};
 ghost use Rattle.commands.specs.Equations.Formulas.{written};
 ghost use Rattle.commands.specs.Equations.Front.{line, ordered};
 ghost use Rattle.commands.specs.Equations.Orders.{Planned, planned};
-ghost use Rattle.commands.specs.FormulaCommands.Code.{IsCodeOf};
+ghost use Rattle.commands.specs.Formulas.Code.{IsCodeOf};
 ghost use Rattle.listing_text.specs.Listing.{listing_of};
 ghost use Rattle.schedules.specs.Turns.{named};
 ghost use Rattle.spiral_main.specs.Generator.{OneGenerator};

@@ -1,12 +1,12 @@
 // Calls that are right in all that their command asks of them, and what they come to.
 ghost use Rattle.std.specs.Prelude.{◌≡◌, ◌≢◌, ◌≤◌, ℕ, List, [], ◌∷◌, ◌++◌, length, true, false, Ok, codes};
-ghost use Rattle.commands.specs.FormulaCommands.Letters as programs;
+ghost use Rattle.commands.specs.Formulas.Letters as programs;
 ghost use Rattle.commands.specs.Emission.Whole.{emission};
 ghost use Rattle.c_print.specs.CText.{c_text_of};
 ghost use Rattle.listing_text.specs.Listing.{listing_of};
 ghost use Rattle.commands.specs.Equations.Formulas.{formed};
 ghost use Rattle.icode.specs.Plain.{PlainProgram};
-ghost use Rattle.commands.specs.ListingCommands.Listed.{loaded, result_of};
+ghost use Rattle.commands.specs.Listings.Listed.{loaded, result_of};
 ghost use Rattle.schedules.specs.Schedule.{Plan as SpecSchedule};
 ghost use Rattle.schedules.specs.Turns.{named};
 ghost use Rattle.commands.specs.Input.Orders.{procs_in};

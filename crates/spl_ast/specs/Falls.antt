@@ -5,7 +5,7 @@ use Rattle.spl_ast.specs.declared.Node.{Node}
 use Rattle.spl_ast.specs.declared.Node.TheVariants.{I, Dft, Wht, Twiddle, Diag, L, Perm, GtIn, GtOut, Compose, TensorLeft, TensorRight, DirectSum, Todo}
 use Rattle.spl_ast.specs.declared.Spl.TheDeep.{deep-Node}
 use Rattle.spl_ast.specs.Formula.{parts_of}
-use Rattle.spl_ast.specs.View.{formula_of}
+use Rattle.spl_ast.specs.Views.{formula_of}
 
 pub deep_le-parts_of : (n : Node) → max (deep-Node n) 0 ≤ parts_of (formula_of n)
 deep_le-parts_of (I n) = omega arith

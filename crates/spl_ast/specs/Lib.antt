@@ -2,8 +2,8 @@ pub mod Formula
 pub mod Meaning
 pub mod Nesting
 pub mod Shape
-pub mod View
+pub mod Views
 pub mod Falls
 pub mod Rewriting
 pub mod Distribution
-pub mod BalancedSums
+pub mod Halves

@@ -2,7 +2,7 @@
 //! how rules rewrite them.
 #![tactic(auto)]
 
-mod balanced_sums;
+mod halves;
 mod build;
 mod distribute;
 mod places;
@@ -13,7 +13,7 @@ ghost use Rattle.std.specs.Prelude.{◌≡◌};
 ghost use Rattle.spl_ast.specs.Formula.{size_of};
 ghost use Rattle.spl_ast.specs.Shape.{IsShaped, IsSize};
 
-pub use balanced_sums::balance;
+pub use halves::balance;
 pub use distribute::Distribute;
 pub use memory::NoMemory;
 pub use places::{by_places, turned};
@@ -70,7 +70,7 @@ impl Model for Spl {
 
     ghost coded = { formula_code };
 
-    ghost use Rattle.spl_ast.specs.View.{formula_of};
+    ghost use Rattle.spl_ast.specs.Views.{formula_of};
 
     ghost view = { λ a. formula_of a.node };
 

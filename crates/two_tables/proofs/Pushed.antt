@@ -7,7 +7,7 @@ use Rattle.icode.specs.declared.program.Stmt.TheVariants as stmts
 use Rattle.icode.specs.Plain.{PlainStmt, Loop, AndStmts, body_of, plain_stmt, plain_body}
 use Rattle.icode.proofs.Views.{plain_stmt-Loop}
 use Rattle.two_tables.specs.Factored.{Split, put_before, factored_stmt, factored_body}
-use Rattle.two_tables.specs.View.{plain_stmts}
+use Rattle.two_tables.specs.Views.{plain_stmts}
 
 before-is : (xs ys : List PlainStmt) → put_before xs (body_of ys) ≡ body_of (xs ++ ys)
 before-is [] ys = refl

@@ -2,4 +2,4 @@ pub mod Factored
 pub mod Factors
 pub mod Laws
 pub mod Places
-pub mod View
+pub mod Views

@@ -4,7 +4,7 @@
 
 ghost use Rattle.std.specs.Prelude.{◌≡◌, ◌<◌, ◌≤◌, length};
 ghost use Rattle.two_tables.specs.Factors.{ones, widest, cut_of, is_cut};
-ghost use Rattle.two_tables.specs.View.{plain_cut};
+ghost use Rattle.two_tables.specs.Views.{plain_cut};
 
 use crate::factors::Cut;
 

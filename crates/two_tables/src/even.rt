@@ -5,7 +5,7 @@ ghost use Rattle.std.specs.List.{list_all};
 ghost use Rattle.icode.specs.Plain.{plain_expr, plain_op, plain_stmt, plain_body, plain_phases};
 ghost use Rattle.two_tables.specs.Places.{are_even, is_even};
 ghost use Rattle.two_tables.specs.Factored.{is_op_even, is_stmt_even, is_body_even};
-ghost use Rattle.nests.specs.View.{plain_parts};
+ghost use Rattle.nests.specs.Views.{plain_parts};
 
 use icode::program::{Expr, Op, Part, Stmt};
 

@@ -4,7 +4,7 @@
 ghost use Rattle.std.specs.Prelude.{◌≡◌, ◌<◌, length, slice_index, All, IfOk};
 ghost use Rattle.std.specs.List.{list_all, range_with_len};
 ghost use Rattle.two_tables.specs.Factors.{first_factor, second_factor, is_product_at, is_table, are_factors};
-ghost use Rattle.two_tables.specs.View.{plain_cut};
+ghost use Rattle.two_tables.specs.Views.{plain_cut};
 
 use memory::NoMemory;
 use ring_mod::QuickModulus;

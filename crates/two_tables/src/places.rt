@@ -3,7 +3,7 @@
 ghost use Rattle.std.specs.Prelude.{◌≡◌, IfOk};
 ghost use Rattle.icode.specs.Plain.{plain_expr};
 ghost use Rattle.two_tables.specs.Places.{quotient_by, place_in_first, place_in_second};
-ghost use Rattle.two_tables.specs.View.{plain_cut};
+ghost use Rattle.two_tables.specs.Views.{plain_cut};
 
 use crate::factors::Cut;
 use icode::program::{Expr, Part};

@@ -4,7 +4,7 @@ ghost use Rattle.std.specs.Prelude.{◌≡◌, ◌++◌, map, IfOk, OnOk};
 ghost use Rattle.icode.specs.Plain.{MulTable, plain_expr, plain_op, plain_stmt, plain_body, plain_phases};
 ghost use Rattle.two_tables.specs.Places.{place_in_first, place_in_second};
 ghost use Rattle.two_tables.specs.Factored.{factored_op, factored_stmt, factored_body};
-ghost use Rattle.two_tables.specs.View.{plain_cut, plain_split, plain_stmts};
+ghost use Rattle.two_tables.specs.Views.{plain_cut, plain_split, plain_stmts};
 
 use crate::factors::Cut;
 use crate::places::{place_in_first, place_in_second};

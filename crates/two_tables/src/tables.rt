@@ -5,7 +5,7 @@ ghost use Rattle.icode.specs.Machine.{IsApart};
 ghost use Rattle.icode.specs.Program.{plain_program, code_of, table_of, Fits};
 ghost use Rattle.two_tables.specs.Factors.{first_factor, second_factor};
 ghost use Rattle.two_tables.specs.Factored.{in_factors, may_be_split, can_split, factored_at, factored};
-ghost use Rattle.two_tables.specs.View.{plain_cut};
+ghost use Rattle.two_tables.specs.Views.{plain_cut};
 ghost use Rattle.two_tables.specs.Laws.{FactoredLeavesTheSame};
 
 use crate::cuts::{cut_of, is_cut};

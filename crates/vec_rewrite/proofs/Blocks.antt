@@ -42,9 +42,9 @@ copied-blocks q n y =
     ∙ at-list_below n _ b below
     ∙ block_at n a y b below)
 
-pub joined-parted : (q v s : ℕ) (y : List ℕ) → on_blocks q (v * s) (turn s v) (on_blocks q (v * s) (turn v s) y)
+pub into_groups-parted : (q v s : ℕ) (y : List ℕ) → on_blocks q (v * s) (turn s v) (on_blocks q (v * s) (turn v s) y)
     ≡ list_below (q * (v * s)) (slice_index y)
-joined-parted q v s y =
+into_groups-parted q v s y =
     sym (tensor_of_product (v * s) q (turn s v) (turn v s) y (λ z. length-list_below _ _)).1
     ∙ on_blocks-same q (v * s) _ _ y (λ z. turn-back v s z ∙ ap (λ n. list_below n (slice_index z)) (mul_comm s v))
     ∙ copied-blocks q (v * s) y

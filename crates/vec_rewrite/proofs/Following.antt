@@ -9,17 +9,17 @@ use Rattle.smp_rewrite.specs.Smp as smp
 use Rattle.smp_rewrite.specs.Smp.{within}
 use Rattle.smp_rewrite.proofs.Cores.{core-reads, core-gives}
 use Rattle.smp_rewrite.proofs.Tensors.{under-within, under-within_all}
-use Rattle.smp_rewrite.specs.LayoutSteps.Meaning.{core_size, core_on, step_on, all_on}
-use Rattle.smp_rewrite.specs.LayoutSteps.Step.{PlainCore, piece, turns, twiddles, thomas_in, thomas_out, step}
-use Rattle.smp_rewrite.proofs.LayoutSteps.StepMeanings.{all_on-append}
-use Rattle.operators.specs.declared.tensor_paths.Tensor.TheVariants.{Blocks, Columns}
-use Rattle.operators.specs.TensorPaths.Path.{Path, size_under, under}
+use Rattle.smp_rewrite.specs.Layout.Meaning.{core_size, core_on, step_on, all_on}
+use Rattle.smp_rewrite.specs.Layout.Step.{PlainCore, piece, turns, twiddles, thomas_in, thomas_out, step}
+use Rattle.smp_rewrite.proofs.Layout.StepMeanings.{all_on-append}
+use Rattle.operators.specs.declared.paths.Tensor.TheVariants.{Blocks, Columns}
+use Rattle.operators.specs.Paths.Tensors.{Path, size_under, under}
 use Rattle.vec_rewrite.specs.declared.Deal.{Deal}
 use Rattle.vec_rewrite.specs.declared.Grid.{Grid}
-use Rattle.vec_rewrite.specs.Turning.{joined, settled, grid_after, order_after, narrowed, block_factors, laned}
+use Rattle.vec_rewrite.specs.Turning.{into_groups, settled, grid_after, order_after, narrowed, block_factors, laned}
 use Rattle.vec_rewrite.specs.Turning.{laned_from}
 use Rattle.vec_rewrite.specs.Vectors.{PlainFactor, lanes, diagonals, move_before, move_after, factor_step}
-use Rattle.vec_rewrite.proofs.Whole.{apart, together, on_lanes, parted-on, joined-on, rows-on_lanes, joined-again}
+use Rattle.vec_rewrite.proofs.Whole.{apart, together, on_lanes, parted-on, into_groups-on, rows-on_lanes, into_groups-again}
 use Rattle.vec_rewrite.proofs.Whole.{turn-on_lanes, columns-on_lanes}
 
 -- ---- which factors can be cut
@@ -153,8 +153,8 @@ rows_on m d None r path core x h =
     let t = d.block / r / v in
     let g : Grid = record { groups = q; tiles = t } in
     ap (apart p q v (t * v))
-    (all_of-append m d (joined d g) (lanes (step (within (Blocks q) path) core) ∷ []) x
-    ∙ ap (step_on m (factor_step p v (lanes (step (within (Blocks q) path) core)))) (joined-on m d g x)
+    (all_of-append m d (into_groups d g) (lanes (step (within (Blocks q) path) core) ∷ []) x
+    ∙ ap (step_on m (factor_step p v (lanes (step (within (Blocks q) path) core)))) (into_groups-on m d g x)
     ∙ lane-on m p v q path core (together p q v (t * v) x))
     ∙ sym (row-on m p v r (t * v) path core x h.0 h.1)
 rows_on m d (Some g) r path core x h =
@@ -166,7 +166,7 @@ rows_on m d (Some g) r path core x h =
     let a = under path (core_size core) (core_on m core) in
     ap (apart p q v (t * v))
     (lane-on m p v q path core x
-    ∙ sym (joined-again p q v s a x)
+    ∙ sym (into_groups-again p q v s a x)
     ∙ ap (λ k. on_lanes p q v s a (together p q v k (apart p q v k x))) h.1)
     ∙ sym (row-on m p v r (t * v) path core (apart p q v (t * v) x) h.0 h.1)
     ∙ ap (λ f. step_on m (smp.factor_step p (smp.blocks (step (Blocks r ∷ path) core))) (apart p f.groups v (f.tiles * v) x)) (sym h.2)

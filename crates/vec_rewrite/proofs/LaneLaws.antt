@@ -6,11 +6,11 @@ use Rattle.std.proofs.lemmas.Bool.{cases_eq}
 use Rattle.std.proofs.lemmas.List.{map-append}
 use Rattle.smp_rewrite.specs.Smp as smp
 use Rattle.smp_rewrite.specs.Cut.{layout_smp, smp_of}
-use Rattle.smp_rewrite.specs.LayoutSteps.Meaning.{all_on}
-use Rattle.smp_rewrite.proofs.LayoutSteps.StepMeanings.{all_on-append}
+use Rattle.smp_rewrite.specs.Layout.Meaning.{all_on}
+use Rattle.smp_rewrite.proofs.Layout.StepMeanings.{all_on-append}
 use Rattle.smp_rewrite.specs.Fits.{CanShareLayout}
-use Rattle.smp_rewrite.specs.LayoutSteps.Layout.{Layout}
-use Rattle.smp_rewrite.specs.LayoutSteps.Whole.{Whole, closed_on, closing_cost}
+use Rattle.smp_rewrite.specs.Layout.Tree.{Layout}
+use Rattle.smp_rewrite.specs.Layout.Whole.{Whole, closed_on, closing_cost}
 use Rattle.operators.specs.declared.target.Target.{Target}
 use Rattle.vec_rewrite.specs.declared.Deal.{Deal}
 use Rattle.vec_rewrite.specs.Laws.{Keeps, VecKeeps}

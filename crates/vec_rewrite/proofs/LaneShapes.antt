@@ -11,13 +11,13 @@ use Rattle.smp_rewrite.specs.Cut.{layout_smp}
 use Rattle.smp_rewrite.specs.Laws.{step_size, IsPermutation, IsMove, HasShape}
 use Rattle.smp_rewrite.proofs.Tensors.{blocks-within, size-within}
 use Rattle.smp_rewrite.proofs.TreeLaws.{smp_shaped}
-use Rattle.smp_rewrite.specs.LayoutSteps.Meaning.{core_size}
-use Rattle.smp_rewrite.specs.LayoutSteps.Step.{PlainCore, piece, turns, twiddles, thomas_in, thomas_out, step}
-use Rattle.operators.specs.declared.tensor_paths.Tensor.TheVariants.{Blocks, Columns}
-use Rattle.operators.specs.TensorPaths.Path.{Path, size_under}
+use Rattle.smp_rewrite.specs.Layout.Meaning.{core_size}
+use Rattle.smp_rewrite.specs.Layout.Step.{PlainCore, piece, turns, twiddles, thomas_in, thomas_out, step}
+use Rattle.operators.specs.declared.paths.Tensor.TheVariants.{Blocks, Columns}
+use Rattle.operators.specs.Paths.Tensors.{Path, size_under}
 use Rattle.smp_rewrite.specs.Fits.{CanShareLayout}
-use Rattle.smp_rewrite.specs.LayoutSteps.Layout.{Layout}
-use Rattle.smp_rewrite.specs.LayoutSteps.Whole.{only}
+use Rattle.smp_rewrite.specs.Layout.Tree.{Layout}
+use Rattle.smp_rewrite.specs.Layout.Whole.{only}
 use Rattle.operators.specs.declared.target.Target.{Target}
 use Rattle.vec_rewrite.specs.declared.Deal.{Deal}
 use Rattle.vec_rewrite.specs.declared.Grid.{Grid}

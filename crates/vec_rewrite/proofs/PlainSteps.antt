@@ -6,7 +6,7 @@ use Rattle.std.proofs.lemmas.Bool.Decides.{nat_tests}
 use Rattle.std.proofs.lemmas.List.{map-append}
 use Rattle.smp_rewrite.specs.Cut.{factors_of, cut}
 use Rattle.smp_rewrite.proofs.Factors.{cut-factors}
-use Rattle.smp_rewrite.specs.LayoutSteps.Step.{PlainStep, steps_of}
+use Rattle.smp_rewrite.specs.Layout.Step.{PlainStep, steps_of}
 use Rattle.sigma_spl.specs.Shared.Targets.{is_alone}
 use Rattle.operators.specs.declared.target.Target.{Target}
 use Rattle.vec_rewrite.specs.Laws.{PlainSteps}

@@ -9,9 +9,9 @@ use Rattle.smp_rewrite.specs.Smp.{PlainFactor, blocks, diagonals, move_before, m
 use Rattle.smp_rewrite.specs.Views.{plain_factor, plain_smp}
 use Rattle.smp_rewrite.specs.declared.SmpSpl.{SmpSpl}
 use Rattle.smp_rewrite.proofs.TreeLaws.{smp_shaped}
-use Rattle.operators.specs.declared.tensor_paths.Tensor.TheVariants.{Blocks, Columns}
+use Rattle.operators.specs.declared.paths.Tensor.TheVariants.{Blocks, Columns}
 use Rattle.operators.specs.declared.target.Target.{Target}
-use Rattle.operators.specs.TensorPaths.Path.{Path, size_under}
+use Rattle.operators.specs.Paths.Tensors.{Path, size_under}
 use Rattle.smp_rewrite.specs.Laws.{IsSmpOf}
 use Rattle.vec_rewrite.specs.Laws.{HasRowsUnder, HasRows}
 

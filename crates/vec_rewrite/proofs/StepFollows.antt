@@ -11,12 +11,12 @@ use Rattle.smp_rewrite.specs.Smp.{within}
 use Rattle.smp_rewrite.specs.Cut.{cut_factors, factors_of}
 use Rattle.smp_rewrite.proofs.Factors.{rows_of}
 use Rattle.smp_rewrite.proofs.Sized.{AreOfSize}
-use Rattle.smp_rewrite.specs.LayoutSteps.Meaning.{core_size}
-use Rattle.smp_rewrite.specs.LayoutSteps.Step.{PlainCore, piece, turns, twiddles, thomas_in, thomas_out, PlainStep}
-use Rattle.smp_rewrite.specs.LayoutSteps.Step.{step}
-use Rattle.operators.specs.declared.tensor_paths.Tensor.{Tensor}
-use Rattle.operators.specs.declared.tensor_paths.Tensor.TheVariants.{Blocks, Columns}
-use Rattle.operators.specs.TensorPaths.Path.{Path, count_of, grown, size_under}
+use Rattle.smp_rewrite.specs.Layout.Meaning.{core_size}
+use Rattle.smp_rewrite.specs.Layout.Step.{PlainCore, piece, turns, twiddles, thomas_in, thomas_out, PlainStep}
+use Rattle.smp_rewrite.specs.Layout.Step.{step}
+use Rattle.operators.specs.declared.paths.Tensor.{Tensor}
+use Rattle.operators.specs.declared.paths.Tensor.TheVariants.{Blocks, Columns}
+use Rattle.operators.specs.Paths.Tensors.{Path, count_of, grown, size_under}
 use Rattle.vec_rewrite.specs.declared.Deal.{Deal}
 use Rattle.vec_rewrite.specs.declared.Grid.{Grid}
 use Rattle.vec_rewrite.specs.Turning.{order_after}

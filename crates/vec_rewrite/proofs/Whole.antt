@@ -9,14 +9,14 @@ use Rattle.operators.proofs.Lists.{length-list_below, on_blocks-same}
 use Rattle.smp_rewrite.specs.Smp.{within}
 use Rattle.smp_rewrite.proofs.Cores.{core-reads, core-gives}
 use Rattle.smp_rewrite.proofs.Tensors.{under-within_all, reads-one_under}
-use Rattle.smp_rewrite.specs.LayoutSteps.Meaning.{step_on, all_on}
-use Rattle.smp_rewrite.specs.LayoutSteps.Step.{turns, step}
-use Rattle.operators.specs.declared.tensor_paths.Tensor.TheVariants.{Blocks, Columns}
+use Rattle.smp_rewrite.specs.Layout.Meaning.{step_on, all_on}
+use Rattle.smp_rewrite.specs.Layout.Step.{turns, step}
+use Rattle.operators.specs.declared.paths.Tensor.TheVariants.{Blocks, Columns}
 use Rattle.vec_rewrite.specs.declared.Deal.{Deal}
 use Rattle.vec_rewrite.specs.declared.Grid.{Grid}
-use Rattle.vec_rewrite.specs.Turning.{parted, joined}
+use Rattle.vec_rewrite.specs.Turning.{parted, into_groups}
 use Rattle.vec_rewrite.specs.Vectors.{factor_step}
-use Rattle.vec_rewrite.proofs.Blocks.{blocks_of_columns, resized, copied-blocks, joined-parted, rows_by_lanes}
+use Rattle.vec_rewrite.proofs.Blocks.{blocks_of_columns, resized, copied-blocks, into_groups-parted, rows_by_lanes}
 use Rattle.vec_rewrite.proofs.Blocks.{tiles_then_vectors, vectors_then_tiles}
 
 -- a product in each block
@@ -54,10 +54,10 @@ parted-on m d g x =
     ∙ resized p n (q * (v * t) * v) (on_columns (q * (v * t)) v vectors) between wide
     ∙ blocks_of_columns p (q * (v * t)) v vectors between)
 
-pub joined-on : (m : ℕ) (d : Deal) (g : Grid) (x : List ℕ) →
-    all_on m (map (factor_step d.procs d.lanes) (joined d g)) x
+pub into_groups-on : (m : ℕ) (d : Deal) (g : Grid) (x : List ℕ) →
+    all_on m (map (factor_step d.procs d.lanes) (into_groups d g)) x
     ≡ together d.procs g.groups d.lanes (g.tiles * d.lanes) x
-joined-on m d g x =
+into_groups-on m d g x =
     let p = d.procs in
     let v = d.lanes in
     let q = g.groups in
@@ -96,15 +96,15 @@ rows-on_lanes p q v s a x =
     ∙ resized p n (q * s * v) columns (together p q v s x) (sym wide))
 
 -- a matrix on all lanes takes no notice of rows that were parted and joined again
-pub joined-again : (p q v s : ℕ) (a : Operator) (x : List ℕ) →
+pub into_groups-again : (p q v s : ℕ) (a : Operator) (x : List ℕ) →
     on_lanes p q v s a (together p q v s (apart p q v s x)) ≡ on_lanes p q v s a x
-joined-again p q v s a x =
+into_groups-again p q v s a x =
     let n = q * (v * s) in
     let m = q * s * v in
     let wide : p * n ≡ p * m = omega arith in
     ap (on_lanes p q v s a)
     (sym (blocks_of_product p n n (on_blocks q (v * s) (turn s v)) (on_blocks q (v * s) (turn v s)) x refl (λ y. length-list_below _ _))
-    ∙ on_blocks-same p n _ _ x (λ y. joined-parted q v s y)
+    ∙ on_blocks-same p n _ _ x (λ y. into_groups-parted q v s y)
     ∙ copied-blocks p n x
     ∙ ap (λ k. list_below k (slice_index x)) wide)
     ∙ reads-one_under (Blocks p) m (on_columns (q * s) v (on_blocks q s a)) x

@@ -4,16 +4,16 @@ use Rattle.smp_rewrite.specs.Smp.{PlainFactor, blocks, diagonals, move_before, m
 use Rattle.smp_rewrite.specs.Cut.{layout_smp, smp_of}
 use Rattle.smp_rewrite.specs.Laws.{step_size, HasEqualParts, IsPermutation, IsDiagonal, IsSmpOf}
 use Rattle.smp_rewrite.specs.Fits.{CanShareLayout}
-use Rattle.smp_rewrite.specs.LayoutSteps.Layout.{Layout}
-use Rattle.smp_rewrite.specs.LayoutSteps.Whole.{Whole, IsGoodWhole, whole_of}
-use Rattle.smp_rewrite.specs.LayoutSteps.Step.{steps_of}
+use Rattle.smp_rewrite.specs.Layout.Tree.{Layout}
+use Rattle.smp_rewrite.specs.Layout.Whole.{Whole, IsGoodWhole, whole_of}
+use Rattle.smp_rewrite.specs.Layout.Step.{steps_of}
 use Rattle.sigma_spl.specs.Good.{AreBlocks}
 use Rattle.sigma_spl.specs.Shared.Targets.{is_alone, target_of}
 use Rattle.matrix_meaning.specs.Valid.{IsValid}
 use Rattle.matrix_meaning.specs.declared.Request.{Request}
 use Rattle.operators.specs.declared.target.Target.{Target}
-use Rattle.operators.specs.declared.tensor_paths.Tensor.TheVariants.{Blocks, Columns}
-use Rattle.operators.specs.TensorPaths.Path.{Path, size_under}
+use Rattle.operators.specs.declared.paths.Tensor.TheVariants.{Blocks, Columns}
+use Rattle.operators.specs.Paths.Tensors.{Path, size_under}
 use Rattle.tree_model.specs.Breakdown.{Breakdown}
 use Rattle.tree_model.specs.Chosen.{IsWholeTree}
 use Rattle.vec_rewrite.specs.Vectors as vec

@@ -3,9 +3,9 @@ use Rattle.std.specs.Prelude.{ℕ, ◌/◌, ◌==◌, if◌then◌else◌, List,
 use Rattle.smp_rewrite.specs.Smp as smp
 use Rattle.smp_rewrite.specs.Smp.{PlainSmp, within}
 use Rattle.operators.specs.declared.target.Target.{Target}
-use Rattle.smp_rewrite.specs.LayoutSteps.Step.{PlainCore, turns, twiddles, PlainStep, step}
-use Rattle.operators.specs.declared.tensor_paths.Tensor.TheVariants.{Blocks, Columns}
-use Rattle.operators.specs.TensorPaths.Path.{Path}
+use Rattle.smp_rewrite.specs.Layout.Step.{PlainCore, turns, twiddles, PlainStep, step}
+use Rattle.operators.specs.declared.paths.Tensor.TheVariants.{Blocks, Columns}
+use Rattle.operators.specs.Paths.Tensors.{Path}
 use Rattle.vec_rewrite.specs.declared.Deal.{Deal}
 use Rattle.vec_rewrite.specs.declared.Grid.{Grid}
 use Rattle.vec_rewrite.specs.Vectors.{PlainFactor, lanes, diagonals, move_before, move_after, tiles, PlainVec}
@@ -22,8 +22,8 @@ kept (smp.move_after s) = move_after s
 -- across each group
 
 -- Rows side by side: `L(s * v, s)` is `(I_(s / v) tensor L(v * v, v)) (L(s, s / v) tensor I_v)`
-abbrev pub joined : Deal → Grid → List PlainFactor
-joined d g =
+abbrev pub into_groups : Deal → Grid → List PlainFactor
+into_groups d g =
     move_before (step (within (Blocks d.procs) (within (Blocks g.groups) [])) (turns g.tiles d.lanes))
     ∷ tiles (within (Blocks g.groups) (within (Blocks g.tiles) [])) ∷ []
 
@@ -40,7 +40,7 @@ settled d (Some g) = parted d g
 
 -- what brings them into groups, where they may lie so already
 abbrev pub grouped : Deal → Option Grid → Grid → List PlainFactor
-grouped d None g = joined d g
+grouped d None g = into_groups d g
 grouped d (Some h) g = []
 
 -- the groups in which a block lies after a step: after one on each of its rows, and after the root's own permutation

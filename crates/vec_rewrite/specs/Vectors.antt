@@ -3,12 +3,12 @@
 use Rattle.std.specs.Prelude.{ℕ, ◌+◌, ◌*◌, ◌/◌, List, [], ◌∷◌, ◌++◌, map, Option}
 use Rattle.operators.specs.Operator.{Operator}
 use Rattle.smp_rewrite.specs.Smp.{by_phase, within}
-use Rattle.smp_rewrite.specs.LayoutSteps.Meaning.{all_on}
-use Rattle.smp_rewrite.specs.LayoutSteps.Whole.{closed_on, closing_cost}
+use Rattle.smp_rewrite.specs.Layout.Meaning.{all_on}
+use Rattle.smp_rewrite.specs.Layout.Whole.{closed_on, closing_cost}
 use Rattle.operators.specs.declared.target.Target.{Target}
-use Rattle.smp_rewrite.specs.LayoutSteps.Step.{PlainStep, step, turns, operations_of}
-use Rattle.operators.specs.declared.tensor_paths.Tensor.TheVariants.{Blocks, Columns}
-use Rattle.operators.specs.TensorPaths.Path.{Path}
+use Rattle.smp_rewrite.specs.Layout.Step.{PlainStep, step, turns, operations_of}
+use Rattle.operators.specs.declared.paths.Tensor.TheVariants.{Blocks, Columns}
+use Rattle.operators.specs.Paths.Tensors.{Path}
 
 -- a step on all lanes of each processor's block; a diagonal on all words; a
 -- permutation of the vectors of all words; tiles under a path in each block

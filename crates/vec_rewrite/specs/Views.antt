@@ -1,6 +1,6 @@
 -- What the code's formulas stand for.
 use Rattle.std.specs.Prelude.{map}
-use Rattle.smp_rewrite.specs.LayoutSteps.Views.{plain_step}
+use Rattle.smp_rewrite.specs.Layout.Views.{plain_step}
 use Rattle.vec_rewrite.specs.Vectors.{PlainFactor, lanes, diagonals, move_before, move_after, tiles, PlainVec}
 use Rattle.vec_rewrite.specs.declared.VecFactor.{VecFactor}
 use Rattle.vec_rewrite.specs.declared.VecFactor.TheVariants.{Lanes, Diagonals, MoveBefore, MoveAfter, Tiles}

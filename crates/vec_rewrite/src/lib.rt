@@ -2,16 +2,16 @@
 #![tactic(auto)]
 
 ghost use Rattle.std.specs.Prelude.{◌≡◌, ◌+◌, ◌*◌, ◌<◌, [], ◌∷◌, ◌++◌, All, IfOk, List, None, OnOk, map, ℕ};
-ghost use Rattle.operators.specs.declared.tensor_paths.Tensor.TheVariants.{Blocks};
+ghost use Rattle.operators.specs.declared.paths.Tensor.TheVariants.{Blocks};
 ghost use Rattle.sigma_spl.specs.Shared.Targets.{target_of};
 ghost use Rattle.smp_rewrite.specs.Smp.{smp_on, smp_shares, within};
 ghost use Rattle.smp_rewrite.specs.Views.{plain_factor, plain_smp};
-ghost use Rattle.smp_rewrite.specs.LayoutSteps.Step.{step, turns};
-ghost use Rattle.smp_rewrite.specs.LayoutSteps.Views.{plain_core, plain_step};
+ghost use Rattle.smp_rewrite.specs.Layout.Step.{step, turns};
+ghost use Rattle.smp_rewrite.specs.Layout.Views.{plain_core, plain_step};
 ghost use Rattle.vec_rewrite.specs.Laws.{HasRows, HasRowsUnder, IsLaned, IsVecOf, IsVecOfTree, PlainSteps, VecKeeps, VecShaped};
 ghost use Rattle.smp_rewrite.specs.Laws.{IsGoodSmpOf, IsSmpOf, IsSmpOfTree};
 ghost use Rattle.tree_model.specs.Breakdown.{Breakdown};
-ghost use Rattle.vec_rewrite.specs.Turning.{block_factors, grid_after, grouped, joined, kept, laned, laned_from, narrowed, order_after, parted, phase_of, settled, vec_of};
+ghost use Rattle.vec_rewrite.specs.Turning.{block_factors, grid_after, grouped, into_groups, kept, laned, laned_from, narrowed, order_after, parted, phase_of, settled, vec_of};
 ghost use Rattle.vec_rewrite.specs.Vectors.{factor_step, vec_on, vec_shares, vec_steps};
 ghost use Rattle.vec_rewrite.specs.Views.{plain_vec, plain_vec_factor};
 

@@ -4,9 +4,9 @@ use Rattle.std.specs.Prelude.{nat_lt, if◌then◌else◌}
 use Rattle.std.proofs.Common.{mul-le-mul_left}
 use Rattle.std.proofs.Math.Nat.{min-le_right, le-min, div-mul-le_self}
 use Rattle.std.proofs.lemmas.Nat.{le-div}
-use Rattle.word_code.specs.declared.choose.WordSize.{WordSize}
-use Rattle.word_code.specs.declared.choose.WordSize.TheVariants.{Of32, Of52, Of64}
-use Rattle.word_code.specs.Choice.{allows, laziness_for, lazy_within, limit_within, middle, narrow, wide}
+use Rattle.word_code.specs.declared.laziness.WordSize.{WordSize}
+use Rattle.word_code.specs.declared.laziness.WordSize.TheVariants.{Of32, Of52, Of64}
+use Rattle.word_code.specs.Laziness.{allows, laziness_for, lazy_within, limit_within, middle, narrow, wide}
 use Rattle.word_code.specs.Laws.{IsLazyWithin}
 use Rattle.word_code.specs.Words.{Width, base_of, sums_of, product_bound}
 use Rattle.word_code.proofs.Arithmetic.{two_at_least}

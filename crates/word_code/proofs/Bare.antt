@@ -14,7 +14,7 @@ use Rattle.icode.proofs.End.{acts_past}
 use Rattle.icode.proofs.Lists.{code_is}
 use Rattle.word_code.specs.Bare.{bare_stmt, bare_body, bare, with_bodies}
 use Rattle.word_code.specs.Needs.{needs}
-use Rattle.word_code.specs.Quicken.{Laziness, Header, header_of, loosest, loosened, quick_stmt, quick_body, quick_phase}
+use Rattle.word_code.specs.Quicken.{PlainLaziness, Header, header_of, loosest, loosened, quick_stmt, quick_body, quick_phase}
 use Rattle.word_code.specs.Quicken.{quick_alone, quick_phases, quickened}
 use Rattle.word_code.specs.WordMachine.{WordAction, under, actions_under}
 use Rattle.word_code.specs.WordProgram.{Note, WordStmt, WordBody, PlainWordProgram}
@@ -25,7 +25,7 @@ use Rattle.word_code.proofs.Leaves.{stmt-steps, body-steps}
 
 -- Notes beside operations leave the operations
 
-module _ (z : Laziness) (h : Header) where
+module _ (z : PlainLaziness) (h : Header) where
   mutual
     pub stmt_stays : (stmt : PlainStmt) (bounds : List ℕ) → bare_stmt (quick_stmt z h stmt bounds).stmt ≡ stmt
     stmt_stays (plain.Loop count body) bounds = ap (plain.Loop count) (body_stays body (loosest z h))
@@ -40,7 +40,7 @@ module _ (z : Laziness) (h : Header) where
   phases_stay [] = refl
   phases_stay (body ∷ phases) = ap₂ (λ x xs. x ∷ xs) (body_stays body (loosest z h)) (phases_stay phases)
 
-alone_stays : (z : Laziness) (h : Header) (body : PlainBody) (bounds : List ℕ) →
+alone_stays : (z : PlainLaziness) (h : Header) (body : PlainBody) (bounds : List ℕ) →
     bare_body (quick_alone z h body bounds).body ≡ body
 alone_stays z h plain.NoStmts bounds = refl
 alone_stays z h (plain.AndStmts stmt rest) bounds =
@@ -48,7 +48,7 @@ alone_stays z h (plain.AndStmts stmt rest) bounds =
     ap₂ plain.AndStmts (stmt_stays y h stmt bounds) (alone_stays z h rest (quick_stmt y h stmt bounds).bounds)
 
 -- what holds of the only phase of the only processor, and of phases that are all made alike, holds of all phases
-pub phases_cases : (z : Laziness) (h : Header) (procs : ℕ) (phases : List PlainBody) (P : List WordBody → Type 0) →
+pub phases_cases : (z : PlainLaziness) (h : Header) (procs : ℕ) (phases : List PlainBody) (P : List WordBody → Type 0) →
     ((body : PlainBody) → procs ≡ 1 → phases ≡ body ∷ [] → P ((quick_alone z h body (loosest z h)).body ∷ [])) →
     P (map (quick_phase z h) phases) → P (quick_phases z h procs phases)
 phases_cases z h procs (body ∷ []) P alone evenly =
@@ -62,13 +62,13 @@ phases_cases z h procs (body ∷ []) P alone evenly =
     (cases_eq procs 1)
 phases_cases z h procs _ P alone evenly = evenly
 
-all_stay : (z : Laziness) (h : Header) (procs : ℕ) (phases : List PlainBody) →
+all_stay : (z : PlainLaziness) (h : Header) (procs : ℕ) (phases : List PlainBody) →
     map bare_body (quick_phases z h procs phases) ≡ phases
 all_stay z h procs phases =
     phases_cases z h procs phases (λ bodies. map bare_body bodies ≡ phases)
     (λ body one is. ap (λ b. b ∷ []) (alone_stays z h body (loosest z h)) ∙ sym is) (phases_stay z h phases)
 
-pub bare_quickened : (z : Laziness) (p : PlainProgram) → bare (quickened z p) ≡ p
+pub bare_quickened : (z : PlainLaziness) (p : PlainProgram) → bare (quickened z p) ≡ p
 bare_quickened z p = ap (with_bodies p) (all_stay z (header_of p) p.procs p.phases)
 
 -- The actions on words are those of the operations
@@ -116,7 +116,7 @@ module _ (w : PlainWordProgram) where
 
 -- A quickened program is apart where the program is
 
-pub quickened_apart : (z : Laziness) (p : PlainProgram) → ((phase : ℕ) → IsApart (plain_code p) phase) → (phase : ℕ) →
+pub quickened_apart : (z : PlainLaziness) (p : PlainProgram) → ((phase : ℕ) → IsApart (plain_code p) phase) → (phase : ℕ) →
     IsApart (under (word_code (quickened z p))) phase
 quickened_apart z p apart phase =
     subst (λ code. IsApart code phase) (sym (code_under_is (quickened z p) ∙ ap plain_code (bare_quickened z p))) (apart phase)

@@ -14,9 +14,9 @@ use Rattle.word_code.specs.declared.program.WordStmt.TheOpen.{WordStmt-F}
 use Rattle.word_code.specs.declared.program.WordStmt.TheFolds.{fold-roll-WordStmt}
 use Rattle.word_code.specs.Words.{product_bound}
 use Rattle.word_code.specs.WordProgram as plain_words
-use Rattle.word_code.specs.Quicken.{Laziness, Header, QuickStmt, QuickBody, bound_at, settled, array_bound}
+use Rattle.word_code.specs.Quicken.{PlainLaziness, Header, QuickStmt, QuickBody, bound_at, settled, array_bound}
 use Rattle.word_code.specs.Quicken.{greatest_bound, noted, loosest, quick_stmt, quick_body, quick_and}
-use Rattle.word_code.specs.View.{word_body_of, word_stmt_view, plain_word_stmt, plain_word_body}
+use Rattle.word_code.specs.Views.{word_body_of, word_stmt_view, plain_word_stmt, plain_word_body}
 use Rattle.word_code.proofs.Operations.{set_sane, greatest_sane, tile_sane}
 use Rattle.word_code.proofs.Reduce.{loosest_is}
 use Rattle.word_code.proofs.Settling.{settled_sane}
@@ -82,7 +82,7 @@ module _ (go : PlainBody → List ℕ → QuickBody) (i : ℕ) (body : List Stmt
 
 -- No bound passes the limit
 
-module _ (z : Laziness) (some : 1 ≤ z.limit) (of_a : z.kept.of_a ≤ z.limit) (of_b : z.kept.of_b ≤ z.limit)
+module _ (z : PlainLaziness) (some : 1 ≤ z.limit) (of_a : z.kept.of_a ≤ z.limit) (of_b : z.kept.of_b ≤ z.limit)
     (product : product_bound z.width ≤ z.limit) where
   array_sane : (array : Array) → array_bound z.kept array ≤ z.limit
   array_sane arrays.A = of_a
@@ -119,7 +119,7 @@ module _ (z : Laziness) (some : 1 ≤ z.limit) (of_a : z.kept.of_a ≤ z.limit) 
 
 -- What stands within the limits
 
-pub loop_made : (z : Laziness) (h : Header) (count i : ℕ) (body items : List Stmt) (s : Stmt) (bounds : List ℕ)
+pub loop_made : (z : PlainLaziness) (h : Header) (count i : ℕ) (body items : List Stmt) (s : Stmt) (bounds : List ℕ)
     (made : Vec WordStmt Global) (after : List ℕ) → plain_stmt s ≡ plain.Loop count (plain_body body) → items ≡ body →
     length items ≤ i → AreMade (quick_body z h) i items (loosest z h) made.items after →
     plain_word_stmt (words.Loop count made) ≡ (quick_stmt z h (plain_stmt s) bounds).stmt

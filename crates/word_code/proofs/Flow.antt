@@ -17,7 +17,7 @@ use Rattle.word_code.specs.Needs.{no_needs, both_needs, needs_of_stmt, needs}
 use Rattle.word_code.specs.WordMachine.{WordAction, actions_under, word_results}
 use Rattle.word_code.specs.WordProgram.{Note, WordStmt, WordBody, PlainWordProgram}
 use Rattle.word_code.specs.WordProgram.{word_action_of, word_actions_of_stmt, word_actions_of_body, word_code}
-use Rattle.word_code.specs.Quicken.{Laziness, bound_at, loosened, loosest, header_of, quick_stmt, quick_alone}
+use Rattle.word_code.specs.Quicken.{PlainLaziness, bound_at, loosened, loosest, header_of, quick_stmt, quick_alone}
 use Rattle.word_code.specs.Quicken.{quick_phase, quickened}
 use Rattle.word_code.specs.Laws.{IsLazyWithin}
 use Rattle.word_code.proofs.Residues.{residues-words_at, AllBelow, below-words_at}
@@ -39,7 +39,7 @@ kept_or_limit : (b : Bool) (x y : ℕ) → 1 ≤ x → x ≤ y → (1 ≤ (if b 
 kept_or_limit true x y some le = (some, le)
 kept_or_limit false x y some le = (omega arith, omega arith)
 
-pub loosened_lazy : (z : Laziness) (m : ℕ) (n : Needs) → IsLazyWithin z m → IsLazyWithin (loosened z n) m
+pub loosened_lazy : (z : PlainLaziness) (m : ℕ) (n : Needs) → IsLazyWithin z m → IsLazyWithin (loosened z n) m
 loosened_lazy z m n lazy =
     record {
       half = lazy.half;
@@ -56,7 +56,7 @@ grows true true x y le = omega arith
 grows true false x y le = le
 grows false c x y le = omega arith
 
-memory_grows : (z : Laziness) (p : PlainProgram) (n m : Needs) (memory : List ℕ) → z.kept.of_a ≤ z.limit →
+memory_grows : (z : PlainLaziness) (p : PlainProgram) (n m : Needs) (memory : List ℕ) → z.kept.of_a ≤ z.limit →
     z.kept.of_b ≤ z.limit →
     IsMemoryBelow (scale (loosened z (both_needs n m)) p) memory → IsMemoryBelow (scale (loosened z m) p) memory
 memory_grows z p n m memory of_a of_b kept =
@@ -95,7 +95,7 @@ body_same w phases body vs q =
 
 -- ---- statement by statement
 
-module _ (z : Laziness) (p : PlainProgram) (lazy : IsLazyWithin z p.modulus) (pos : 0 < p.modulus) where
+module _ (z : PlainLaziness) (p : PlainProgram) (lazy : IsLazyWithin z p.modulus) (pos : 0 < p.modulus) where
   sound : (n : Needs) → IsSound (scale (loosened z n) p)
   sound n = sound_of (loosened z n) p (loosened_lazy z p.modulus n lazy) pos
 
@@ -152,7 +152,7 @@ module _ (z : Laziness) (p : PlainProgram) (lazy : IsLazyWithin z p.modulus) (po
       }
 
 -- whatever the order of turns, a program of one processor and one phase leaves the residues that it leaves on residues
-pub alone_is_same : (z : Laziness) (p : PlainProgram) (body : PlainBody) → p.procs ≡ 1 → p.phases ≡ body ∷ [] →
+pub alone_is_same : (z : PlainLaziness) (p : PlainProgram) (body : PlainBody) → p.procs ≡ 1 → p.phases ≡ body ∷ [] →
     PlainFits p → IsLazyWithin z p.modulus → 0 < p.modulus → 1 ≤ p.line → (x turns : List ℕ) →
     All (λ v. v < p.modulus) x →
     let quick = (quick_alone z (header_of p) body (loosest z (header_of p))).body in

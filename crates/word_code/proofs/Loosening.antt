@@ -10,12 +10,12 @@ use Rattle.icode.proofs.Steps.{drop_item}
 use Rattle.word_code.specs.declared.needs.Needs.{Needs}
 use Rattle.word_code.specs.Needs.{needs, needs_of_each}
 use Rattle.word_code.specs.Words.{product_bound}
-use Rattle.word_code.specs.Quicken.{Laziness, Header, bound_at, loosened, quick_stmt, quick_and, quick_alone}
+use Rattle.word_code.specs.Quicken.{PlainLaziness, Header, bound_at, loosened, quick_stmt, quick_and, quick_alone}
 use Rattle.word_code.proofs.Emitting.{stmt_sane}
 use Rattle.word_code.proofs.Needing.{needed-at}
 
 -- the statement before the rest is quickened by what is needed from it on
-pub alone_splits : (z : Laziness) (h : Header) (i : ℕ) (body : List Stmt) (stmt : Stmt) (n : Needs) (bounds : List ℕ) →
+pub alone_splits : (z : PlainLaziness) (h : Header) (i : ℕ) (body : List Stmt) (stmt : Stmt) (n : Needs) (bounds : List ℕ) →
     i < length body → stmt ≡ get_or body i stmt → n ≡ get_or (needs_of_each (plain_body body)) i n →
     let one = quick_stmt (loosened z n) h (plain_stmt stmt) bounds in
     let rest = plain_body (drop (i + 1) body) in
@@ -33,7 +33,7 @@ either-low : (b : Bool) (k limit : ℕ) → k ≤ limit → (if b then k else li
 either-low true k limit le = le
 either-low false k limit le = omega arith
 
-pub needed_sane : (z : Laziness) (h : Header) (n : Needs) (stmt : PlainStmt) (bounds : List ℕ) → 1 ≤ z.limit →
+pub needed_sane : (z : PlainLaziness) (h : Header) (n : Needs) (stmt : PlainStmt) (bounds : List ℕ) → 1 ≤ z.limit →
     z.kept.of_a ≤ z.limit → z.kept.of_b ≤ z.limit → product_bound z.width ≤ z.limit →
     ((r : ℕ) → bound_at z.limit bounds r ≤ z.limit) →
     (r : ℕ) → bound_at z.limit (quick_stmt (loosened z n) h stmt bounds).bounds r ≤ z.limit

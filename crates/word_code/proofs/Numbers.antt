@@ -13,7 +13,7 @@ use Rattle.nests.proofs.Listed.{all-left, all-right}
 use Rattle.word_code.specs.Bare.{NumbersFit, WordsFit}
 use Rattle.word_code.specs.Laws.{IsLazyWithin}
 use Rattle.word_code.specs.Needs.{needs}
-use Rattle.word_code.specs.Quicken.{Laziness, header_of, bound_at, loosest, loosened, quick_stmt, quick_alone}
+use Rattle.word_code.specs.Quicken.{PlainLaziness, header_of, bound_at, loosest, loosened, quick_stmt, quick_alone}
 use Rattle.word_code.specs.Quicken.{quickened}
 use Rattle.word_code.specs.Words.{base_of, quotient_of}
 use Rattle.word_code.specs.WordMachine.{WordAction}
@@ -25,7 +25,7 @@ use Rattle.word_code.proofs.Operations.{sound_of}
 use Rattle.word_code.proofs.Programs.{evenly, stmt_leads, phase_leads, loose_long, loose_sane}
 use Rattle.word_code.proofs.Rows.{lists_have}
 
-module _ (z : Laziness) (p : PlainProgram) (fits : PlainFits p) (lazy : IsLazyWithin z p.modulus)
+module _ (z : PlainLaziness) (p : PlainProgram) (fits : PlainFits p) (lazy : IsLazyWithin z p.modulus)
     (pos : 0 < p.modulus) where
   abbrev w : PlainWordProgram
   w = quickened z p
@@ -71,7 +71,7 @@ module _ (z : Laziness) (p : PlainProgram) (fits : PlainFits p) (lazy : IsLazyWi
       alone body is (suc phase) fit = All-nil Fit
 
 -- a quickened program fits where the program does
-pub quickened_fits : (z : Laziness) (p : PlainProgram) → PlainFits p → IsLazyWithin z p.modulus → 0 < p.modulus →
+pub quickened_fits : (z : PlainLaziness) (p : PlainProgram) → PlainFits p → IsLazyWithin z p.modulus → 0 < p.modulus →
     WordsFit (quickened z p)
 quickened_fits z p fits lazy pos =
     record {

@@ -22,7 +22,7 @@ use Rattle.word_code.specs.WordMachine.{WordAction}
 use Rattle.word_code.specs.Words.{base_of, sums_of, quotient_of, product_bound}
 use Rattle.word_code.specs.Laws.{IsLazyWithin}
 use Rattle.word_code.specs.WordProgram.{word_action_of}
-use Rattle.word_code.specs.Quicken.{Laziness, Settled, bound_at, settled, array_bound, greatest_bound, noted, quickened}
+use Rattle.word_code.specs.Quicken.{PlainLaziness, Settled, bound_at, settled, array_bound, greatest_bound, noted, quickened}
 use Rattle.word_code.proofs.Arithmetic.{two_at_least}
 use Rattle.word_code.proofs.Residues.{AreQuotients}
 use Rattle.word_code.proofs.Quick.{Scale, bound_outer, bound_of_a, bound_of_b, address_bound, IsMemoryBelow, IsQuick}
@@ -31,7 +31,7 @@ use Rattle.word_code.proofs.Puts.{IsSound, IsPut, quick_put, quick_store, zero_p
 use Rattle.word_code.proofs.Puts.{mul_put, tile_put}
 use Rattle.nests.proofs.Rows.{factors_each}
 
-abbrev pub scale : Laziness → PlainProgram → Scale
+abbrev pub scale : PlainLaziness → PlainProgram → Scale
 scale z p =
     record {
       width = z.width;
@@ -42,7 +42,7 @@ scale z p =
       limit = z.limit;
     }
 
-pub sound_of : (z : Laziness) (p : PlainProgram) → IsLazyWithin z p.modulus → 0 < p.modulus → IsSound (scale z p)
+pub sound_of : (z : PlainLaziness) (p : PlainProgram) → IsLazyWithin z p.modulus → 0 < p.modulus → IsSound (scale z p)
 sound_of z p lazy pos = record { modulus = pos; lazy = lazy }
 
 -- Bounds that are set
@@ -146,12 +146,12 @@ quotients_below base m (c ∷ cs) (q ∷ qs) some are low =
 quotients_below base m _ _ some are low = absurd are
 
 -- an action on words goes from the bounds to those after it, and its numbers are words
-pub record IsDone (z : Laziness) (p : PlainProgram) (bounds : List ℕ) (f : WordAction) (after : List ℕ) : Type 0 where
+pub record IsDone (z : PlainLaziness) (p : PlainProgram) (bounds : List ℕ) (f : WordAction) (after : List ℕ) : Type 0 where
   pub quick : IsQuick (scale z p) (bound_at z.limit bounds) f (bound_at z.limit after)
   pub long : length after ≡ p.regs
   pub numbers : NumbersFit z.width p.regs f
 
-module _ (z : Laziness) (p : PlainProgram) (sound : IsSound (scale z p)) where
+module _ (z : PlainLaziness) (p : PlainProgram) (sound : IsSound (scale z p)) where
   abbrev s : Scale
   s = scale z p
 

@@ -16,7 +16,7 @@ use Rattle.word_code.specs.WordMachine.{WordAction, under, actions_under, word_r
 use Rattle.word_code.specs.WordProgram.{NoStmts, PlainWordProgram, word_action_of, word_actions_of_stmt}
 use Rattle.word_code.specs.WordProgram.{word_actions_of_body}
 use Rattle.word_code.specs.WordProgram.{word_code}
-use Rattle.word_code.specs.Quicken.{Laziness, bound_at, loosest, header_of, noted, quick_stmt, quick_body, quick_phase}
+use Rattle.word_code.specs.Quicken.{PlainLaziness, bound_at, loosest, header_of, noted, quick_stmt, quick_body, quick_phase}
 use Rattle.word_code.specs.Quicken.{quickened}
 use Rattle.word_code.specs.Laws.{IsLazyWithin}
 use Rattle.word_code.specs.Bare.{NumbersFit, bare, with_bodies}
@@ -30,7 +30,7 @@ use Rattle.word_code.proofs.Operations.{scale, sound_of, do_is_quick}
 use Rattle.word_code.proofs.Rows.{none_past, lists_have}
 
 -- the program on words with the same bounds of A and of B throughout
-abbrev pub evenly : Laziness → PlainProgram → PlainWordProgram
+abbrev pub evenly : PlainLaziness → PlainProgram → PlainWordProgram
 evenly z p = record (quickened z p) { phases = map (quick_phase z (header_of p)) p.phases }
 
 pub below_of_all : (m : ℕ) (xs : List ℕ) → All (λ v. v < m) xs → AllBelow m xs
@@ -44,22 +44,22 @@ ends_weaker s b c d (f ∷ fs) le are = (are.0, are.1, ends_weaker s are.0 c d f
 
 -- The actions under those on words
 
-bare_evenly : (z : Laziness) (p : PlainProgram) → bare (evenly z p) ≡ p
+bare_evenly : (z : PlainLaziness) (p : PlainProgram) → bare (evenly z p) ≡ p
 bare_evenly z p = ap (with_bodies p) (phases_stay z (header_of p) p.phases)
 
-pub stmt_under : (z : Laziness) (p : PlainProgram) (stmt : PlainStmt) (bounds vs : List ℕ) (q : ℕ) →
+pub stmt_under : (z : PlainLaziness) (p : PlainProgram) (stmt : PlainStmt) (bounds vs : List ℕ) (q : ℕ) →
     actions_under (word_actions_of_stmt (evenly z p) (quick_stmt z (header_of p) stmt bounds).stmt vs q)
     ≡ actions_of (steps_of_stmt p stmt vs q)
 stmt_under z p stmt bounds vs q =
     stmt_acts (evenly z p) (quick_stmt z (header_of p) stmt bounds).stmt vs q
     ∙ ap₂ (λ p stmt. actions_of (steps_of_stmt p stmt vs q)) (bare_evenly z p) (stmt_stays z (header_of p) stmt bounds)
 
-code_under : (z : Laziness) (p : PlainProgram) → under (word_code (evenly z p)) ≡ plain_code p
+code_under : (z : PlainLaziness) (p : PlainProgram) → under (word_code (evenly z p)) ≡ plain_code p
 code_under z p = code_under_is (evenly z p) ∙ ap plain_code (bare_evenly z p)
 
 -- Statements go by their bounds
 
-module _ (z : Laziness) (p : PlainProgram) (sound : IsSound (scale z p)) where
+module _ (z : PlainLaziness) (p : PlainProgram) (sound : IsSound (scale z p)) where
   abbrev s : Scale
   s = scale z p
 
@@ -198,7 +198,7 @@ module _ (z : Laziness) (p : PlainProgram) (sound : IsSound (scale z p)) where
       }
 
 -- what it leaves is what the program leaves, whatever the order of turns
-pub evenly_is_same : (z : Laziness) (p : PlainProgram) → PlainFits p → IsLazyWithin z p.modulus → 0 < p.modulus →
+pub evenly_is_same : (z : PlainLaziness) (p : PlainProgram) → PlainFits p → IsLazyWithin z p.modulus → 0 < p.modulus →
     1 ≤ p.line → (x turns : List ℕ) → All (λ v. v < p.modulus) x →
     word_results (word_code (evenly z p)) x turns ≡ results (plain_code p) x turns
 evenly_is_same z p fits lazy pos line x turns low =

@@ -15,9 +15,9 @@ use Rattle.icode.proofs.Runs.{memory_of_runs}
 use Rattle.word_code.specs.declared.program.WordProgram.{WordProgram}
 use Rattle.word_code.specs.Bare.{WordsFit}
 use Rattle.word_code.specs.Laws.{IsLazyWithin}
-use Rattle.word_code.specs.Quicken.{Laziness, quickened}
+use Rattle.word_code.specs.Quicken.{PlainLaziness, quickened}
 use Rattle.word_code.specs.Same.{LeavesTheSame, OrderIsFreeOf, FitsAs}
-use Rattle.word_code.specs.View.{plain_word_program}
+use Rattle.word_code.specs.Views.{plain_word_program}
 use Rattle.word_code.specs.WordMachine.{word_results}
 use Rattle.word_code.specs.WordProgram.{word_code}
 use Rattle.word_code.proofs.Numbers.{quickened_fits}
@@ -44,13 +44,13 @@ phase_within m phases i body e lt is =
     subst (λ (b : Vec Stmt Global). is_body_within m (plain_body b.items) 0 ≡ true) (sym is)
     (item_passes (λ body. is_body_within m body 0) (λ (b : Vec Stmt Global). plain_body b.items) phases i body all lt)
 
-pub same_from : (z : Laziness) (words : WordProgram) (p : Program) →
+pub same_from : (z : PlainLaziness) (words : WordProgram) (p : Program) →
     plain_word_program words ≡ quickened z (plain_program p) → IsLazyWithin z p.modulus → LeavesTheSame words p
 same_from z words p made lazy fits x turns low =
     ap (λ w. word_results (word_code w) x turns) made
     ∙ quickened_is_same z (plain_program p) fits lazy (let a = p.header.of_modulus.0 in omega arith) p.header.of_line.0 x turns low
 
-pub fits_from : (z : Laziness) (words : WordProgram) (p : Program) →
+pub fits_from : (z : PlainLaziness) (words : WordProgram) (p : Program) →
     plain_word_program words ≡ quickened z (plain_program p) → IsLazyWithin z p.modulus → FitsAs words p
 fits_from z words p made lazy fits =
     subst WordsFit (sym made) (quickened_fits z (plain_program p) fits lazy (let a = p.header.of_modulus.0 in omega arith))

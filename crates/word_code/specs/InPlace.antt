@@ -1,7 +1,7 @@
 pub mod Homes
 pub mod Accesses
 pub mod Routes
-pub mod Choice
-pub mod InPlace
-pub mod View
+pub mod Routing
+pub mod Sharing
+pub mod Views
 pub mod Laws

@@ -5,11 +5,11 @@ pub mod WordMachine
 pub mod WordProgram
 pub mod Quicken
 pub mod Laws
-pub mod View
+pub mod Views
 pub mod Setting
 pub mod Same
 pub mod Kinds
-pub mod Choice
+pub mod Laziness
 pub mod Bare
 pub mod FreshWords
 pub mod Bytes

@@ -21,7 +21,7 @@ pub record Kept : Type 0 where
   pub of_b : ℕ
 
 -- How lazy a program on words is: the words of registers are below `limit` times the modulus
-pub record Laziness : Type 0 where
+pub record PlainLaziness : Type 0 where
   pub width : Width
   pub kept : Kept
   pub limit : ℕ
@@ -73,7 +73,7 @@ abbrev pub no_note : Note
 no_note = record { before = []; bias = 0; quotient = 0 }
 
 -- the note of an operation, where the registers have these bounds, and the bounds after it
-abbrev pub noted : Laziness → ℕ → ℕ → PlainOp → List ℕ → Noted
+abbrev pub noted : PlainLaziness → ℕ → ℕ → PlainOp → List ℕ → Noted
 noted z m lanes (Load r array place) bounds = record {
   note = no_note;
   bounds = slice_set bounds r (array_bound z.kept array);
@@ -113,7 +113,7 @@ noted z m lanes (Tile r x) bounds =
     record { note = no_note; bounds = with_words bounds r (replicate lanes (greatest_bound z.limit bounds lanes x)) }
 
 -- the words of A and of B may be as great as those of registers, where nothing needs them smaller
-abbrev pub loosened : Laziness → Needs → Laziness
+abbrev pub loosened : PlainLaziness → Needs → PlainLaziness
 loosened z n =
     record z {
       kept = record {
@@ -129,7 +129,7 @@ pub record Header : Type 0 where
   pub regs : ℕ
 
 -- nothing is known but the limit
-abbrev pub loosest : Laziness → Header → List ℕ
+abbrev pub loosest : PlainLaziness → Header → List ℕ
 loosest z h = replicate h.regs z.limit
 
 pub record QuickStmt : Type 0 where
@@ -148,44 +148,44 @@ quick_and stmt rest = record { body = AndStmts stmt rest.body; bounds = rest.bou
 
 -- nothing is known where a turn of a loop begins and where it ends
 abbrev mutual
-  pub quick_stmt : Laziness → Header → PlainStmt → List ℕ → QuickStmt
+  pub quick_stmt : PlainLaziness → Header → PlainStmt → List ℕ → QuickStmt
   quick_stmt z h (plain.Loop count body) bounds =
       record { stmt = Loop count (quick_body z h body (loosest z h)).body; bounds = loosest z h }
   quick_stmt z h (plain.Do op) bounds = quick_do op (noted z h.modulus h.lanes op bounds)
 
-  pub quick_body : Laziness → Header → PlainBody → List ℕ → QuickBody
+  pub quick_body : PlainLaziness → Header → PlainBody → List ℕ → QuickBody
   quick_body z h plain.NoStmts bounds = record { body = NoStmts; bounds = bounds }
   quick_body z h (plain.AndStmts stmt rest) bounds =
       let one = quick_stmt z h stmt bounds in quick_and one.stmt (quick_body z h rest one.bounds)
 
 -- the statements of a phase on words
-abbrev pub quick_phase : Laziness → Header → PlainBody → WordBody
+abbrev pub quick_phase : PlainLaziness → Header → PlainBody → WordBody
 quick_phase z h body = (quick_body z h body (loosest z h)).body
 
 -- ---- one processor and one phase: the words of A and of B may be as great as those of registers, from where on they
 -- are but multiplied
 
 -- the statement, where the words of A and of B may be as great as what is left of the phase allows
-abbrev pub quick_alone : Laziness → Header → PlainBody → List ℕ → QuickBody
+abbrev pub quick_alone : PlainLaziness → Header → PlainBody → List ℕ → QuickBody
 quick_alone z h plain.NoStmts bounds = record { body = NoStmts; bounds = bounds }
 quick_alone z h (plain.AndStmts stmt rest) bounds =
     let one = quick_stmt (loosened z (needs (plain.AndStmts stmt rest))) h stmt bounds in
     quick_and one.stmt (quick_alone z h rest one.bounds)
 
 -- the statements of all phases on words, given how many processors there are
-abbrev pub quick_phases : Laziness → Header → ℕ → List PlainBody → List WordBody
+abbrev pub quick_phases : PlainLaziness → Header → ℕ → List PlainBody → List WordBody
 quick_phases z h procs (body ∷ []) =
     (if procs == 1 then (quick_alone z h body (loosest z h)).body else quick_phase z h body) ∷ []
 quick_phases z h procs phases = map (quick_phase z h) phases
 
-abbrev pub quotients_of : Laziness → ℕ → List (List ℕ) → List (List ℕ)
+abbrev pub quotients_of : PlainLaziness → ℕ → List (List ℕ) → List (List ℕ)
 quotients_of z m tables = map (λ entries. map (quotient_of (base_of z.width) m) entries) tables
 
 abbrev pub header_of : PlainProgram → Header
 header_of p = record { modulus = p.modulus; lanes = p.lanes; regs = p.regs }
 
 -- the program on words
-abbrev pub quickened : Laziness → PlainProgram → PlainWordProgram
+abbrev pub quickened : PlainLaziness → PlainProgram → PlainWordProgram
 quickened z p =
     record {
       width = z.width;

@@ -7,7 +7,7 @@ use Rattle.word_code.specs.declared.program.WordProgram.{WordProgram}
 use Rattle.word_code.specs.Bare.{WordsFit}
 use Rattle.word_code.specs.WordMachine.{word_results}
 use Rattle.word_code.specs.WordProgram.{word_code}
-use Rattle.word_code.specs.View.{plain_word_program}
+use Rattle.word_code.specs.Views.{plain_word_program}
 
 -- whatever the vector of residues and the order of turns, it is what the program leaves
 abbrev pub LeavesTheSame : WordProgram → Program → Type 0

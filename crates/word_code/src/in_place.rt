@@ -1,5 +1,5 @@
 // Passes in place: arrays of a program on words are shared, where each load still finds its words.
-mod choice;
+mod routing;
 mod homes;
 pub mod laws;
 mod places;

@@ -3,7 +3,7 @@
 ghost use Rattle.std.specs.Prelude.{◌≡◌};
 ghost use Rattle.icode.specs.Plain.{plain_op};
 ghost use Rattle.word_code.specs.Input.{is_input, op_writes_input, stmt_writes_input, body_writes_input, input_writer};
-ghost use Rattle.word_code.specs.View.{plain_word_stmt, plain_word_body, plain_word_program};
+ghost use Rattle.word_code.specs.Views.{plain_word_stmt, plain_word_body, plain_word_program};
 
 use crate::program::{WordProgram, WordStmt};
 use icode::program::{Array, Op};

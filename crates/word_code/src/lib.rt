@@ -1,7 +1,7 @@
 //! Loop code on words: lazy residues, products by known factors, and passes in place.
 #![tactic(auto)]
 
-pub mod choose;
+pub mod laziness;
 mod in_place;
 mod input;
 pub mod laws;

@@ -10,29 +10,29 @@ ghost use Rattle.word_code.specs.Kinds.{NeedsNoReductions};
 ghost use Rattle.word_code.specs.Quicken.{bound_at, array_bound, no_note as no_note_plain};
 ghost use Rattle.word_code.specs.Setting.{IsSettingWithin, AreBoundsWithin, settled_in, bound_in};
 ghost use Rattle.word_code.specs.Setting.{note_after, note_of_factor, noted_in};
-ghost use Rattle.word_code.specs.View.{lazy_of, plain_note};
+ghost use Rattle.word_code.specs.Views.{lazy_of, plain_note};
 
-use crate::program::{Note, Setting, Slack};
+use crate::program::{Note, Setting, Laziness};
 use crate::settle::{bound_of, greatest_of, put_bound, settle};
 use icode::program::{Array, Op};
 use memory::NoMemory;
 use std::alloc::Global;
 
-pub(crate) fn bound_of_array(slack: Slack, array: Array) -> u64
-    ensures { result ≡ array_bound (lazy_of slack).kept array }
+pub(crate) fn bound_of_array(laziness: Laziness, array: Array) -> u64
+    ensures { result ≡ array_bound (lazy_of laziness).kept array }
 {
     match array {
         Array::X => 1,
         Array::Y => 1,
-        Array::A => slack.keep_a,
-        Array::B => slack.keep_b,
+        Array::A => laziness.keep_a,
+        Array::B => laziness.keep_b,
     }
 }
 
-pub(crate) fn bound_of_product(slack: Slack) -> u64
-    ensures { result ≡ product_bound (lazy_of slack).width }
+pub(crate) fn bound_of_product(laziness: Laziness) -> u64
+    ensures { result ≡ product_bound (lazy_of laziness).width }
 {
-    if slack.rough { 4 } else { 2 }
+    if laziness.rough { 4 } else { 2 }
 }
 
 /// The quotient of a factor.
@@ -109,7 +109,7 @@ fn note_of_store(
     ensures after { OnOk result (let most = 2 * bound_in setting array in
         bounds.new ≡ (settled_in setting register register most bounds.old).bounds) }
 {
-    let most = 2 * bound_of_array(setting.slack, array);
+    let most = 2 * bound_of_array(setting.laziness, array);
     let before = settle(alloc, setting, register, register, most, bounds)?;
     Ok(Note {
         before,
@@ -134,7 +134,7 @@ fn note_of_sum(
     ensures after { OnOk result
         (bounds.new ≡ (noted_in setting (Add register left right) bounds.old).bounds) }
 {
-    let limit = setting.slack.limit;
+    let limit = setting.laziness.limit;
     let before = settle(alloc, setting, left, right, limit, bounds)?;
     let sum = sum_of(limit, bounds, left, right);
     put_bound(bounds, register, sum);
@@ -161,7 +161,7 @@ fn note_of_difference(
     ensures after { OnOk result
         (bounds.new ≡ (noted_in setting (Sub register left right) bounds.old).bounds) }
 {
-    let limit = setting.slack.limit;
+    let limit = setting.laziness.limit;
     let before = settle(alloc, setting, left, right, limit, bounds)?;
     let sum = sum_of(limit, bounds, left, right);
     let bias = multiple(limit, setting.modulus, bound_of(limit, bounds, right));
@@ -188,7 +188,7 @@ fn note_of_negative(
     ensures after { OnOk result
         (bounds.new ≡ (noted_in setting (Neg register source) bounds.old).bounds) }
 {
-    let limit = setting.slack.limit;
+    let limit = setting.laziness.limit;
     let before = settle(alloc, setting, source, source, 2 * (limit - 1), bounds)?;
     let of_source = bound_of(limit, bounds, source);
     let bias = multiple(limit, setting.modulus, of_source);
@@ -212,13 +212,13 @@ fn note_of_product(
     requires factor { factor < setting.modulus }
     ensures note { plain_note result ≡ note_of_factor setting factor }
     ensures after { bounds.new
-        ≡ slice_set bounds.old register (product_bound (lazy_of setting.slack).width) }
+        ≡ slice_set bounds.old register (product_bound (lazy_of setting.laziness).width) }
 {
-    put_bound(bounds, register, bound_of_product(setting.slack));
+    put_bound(bounds, register, bound_of_product(setting.laziness));
     Note {
         before: Vec::new(alloc),
         bias: 0,
-        quotient: quotient(setting.slack.half, setting.modulus, factor),
+        quotient: quotient(setting.laziness.half, setting.modulus, factor),
     }
 }
 
@@ -236,7 +236,7 @@ fn note_of_tile(
     ensures note { plain_note result ≡ no_note_plain }
     ensures after { bounds.new ≡ (noted_in setting (Tile register source) bounds.old).bounds }
 {
-    let greatest = greatest_of(setting.slack.limit, bounds, setting.lanes, source);
+    let greatest = greatest_of(setting.laziness.limit, bounds, setting.lanes, source);
     put_bounds(bounds, register, setting.lanes, greatest);
     no_note(alloc)
 }
@@ -263,7 +263,7 @@ fn note_without_reductions(
         } => note_of_put(
             alloc,
             *register,
-            bound_of_array(setting.slack, *array),
+            bound_of_array(setting.laziness, *array),
             bounds,
         ),
         Op::Zero { register } => note_of_put(alloc, *register, 1, bounds),
@@ -273,7 +273,7 @@ fn note_without_reductions(
             ..
         } => note_of_product(alloc, setting, *register, *factor, bounds),
         Op::MulTable { register, .. } => {
-            note_of_put(alloc, *register, bound_of_product(setting.slack), bounds)
+            note_of_put(alloc, *register, bound_of_product(setting.laziness), bounds)
         }
         Op::Tile { register, source } => note_of_tile(alloc, setting, *register, *source, bounds),
         Op::Store { .. } | Op::Add { .. } | Op::Sub { .. } | Op::Neg { .. } => unreachable!(),

@@ -50,7 +50,7 @@ pub struct WordProgram {
 
 /// How lazy a program on words is.
 #[derive(Clone, Copy, Drop, PartialEq, Eq, Debug)]
-pub struct Slack {
+pub struct Laziness {
     pub half: u64,
     pub rough: bool,
     /// The words of A stay below this multiple of the modulus.
@@ -64,7 +64,7 @@ pub struct Slack {
 /// What the statements of a program share.
 #[derive(Clone, Copy, Drop)]
 pub(crate) struct Setting {
-    pub slack: Slack,
+    pub laziness: Laziness,
     pub modulus: u64,
     pub lanes: u64,
     pub regs: u64,

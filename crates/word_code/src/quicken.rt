@@ -12,11 +12,11 @@ ghost use Rattle.word_code.specs.Same.{LeavesTheSame, OrderIsFreeOf, FitsAs};
 ghost use Rattle.word_code.specs.Quicken.{quotients_of, quickened};
 ghost use Rattle.word_code.specs.Setting.{IsSettingWithin, AreBoundsWithin};
 ghost use Rattle.word_code.specs.Setting.{quick_stmt_in, quick_phase_in, quick_phases_in};
-ghost use Rattle.word_code.specs.View.{lazy_of, plain_word_stmt, plain_word_body};
-ghost use Rattle.word_code.specs.View.{plain_word_phases, plain_word_program};
+ghost use Rattle.word_code.specs.Views.{lazy_of, plain_word_stmt, plain_word_body};
+ghost use Rattle.word_code.specs.Views.{plain_word_phases, plain_word_program};
 
 use crate::note::{note_of, quotient};
-use crate::program::{Setting, Slack, WordProgram, WordStmt};
+use crate::program::{Setting, Laziness, WordProgram, WordStmt};
 use crate::single::quicken_alone;
 use icode::copies::copied_tables;
 use icode::program::{Program, Stmt};
@@ -50,13 +50,13 @@ pub(crate) fn quicken_stmt(
 {
     match stmt {
         Stmt::Loop { count, body } => {
-            loosen(bounds, setting.slack.limit);
+            loosen(bounds, setting.laziness.limit);
             let mut made = Vec::new(alloc);
             for inner in body {
                 let inner = quicken_stmt(alloc, setting, inner, depth + 1, bounds)?;
                 made.push(inner)?;
             }
-            loosen(bounds, setting.slack.limit);
+            loosen(bounds, setting.laziness.limit);
             Ok(WordStmt::Loop {
                 count: *count,
                 body: made,
@@ -77,7 +77,7 @@ fn quicken_phase(alloc: Global, setting: Setting, body: &[Stmt]) -> Result<Vec<W
     ensures { IfOk result
         (λ made. plain_word_body made.items ≡ quick_phase_in setting (plain_body body.now)) }
 {
-    let mut bounds = vec![in alloc; setting.slack.limit; setting.regs as usize]?;
+    let mut bounds = vec![in alloc; setting.laziness.limit; setting.regs as usize]?;
     let bounds = bounds.as_mut_slice();
     let mut made = Vec::new(alloc);
     for stmt in body {
@@ -102,18 +102,18 @@ fn quotients(alloc: Global, half: u64, modulus: u64, entries: &[u64]) -> Result<
 
 fn quotient_tables(
     alloc: Global,
-    slack: Slack,
+    laziness: Laziness,
     modulus: u64,
     tables: &[Vec<u64>],
 ) -> Result<Vec<Vec<u64>>, NoMemory>
-    requires half { slack.half ≤ 2 ^ 32 }
+    requires half { laziness.half ≤ 2 ^ 32 }
     requires below { IsTrue (are_tables_within modulus (plain_tables tables.now)) }
     ensures { IfOk result (λ made. plain_tables made.items
-        ≡ quotients_of (lazy_of slack) modulus (plain_tables tables.now)) }
+        ≡ quotients_of (lazy_of laziness) modulus (plain_tables tables.now)) }
 {
     let mut made = Vec::new(alloc);
     for entries in tables {
-        let entries = quotients(alloc, slack.half, modulus, entries)?;
+        let entries = quotients(alloc, laziness.half, modulus, entries)?;
         made.push(entries)?;
     }
     Ok(made)
@@ -150,25 +150,25 @@ fn quicken_phases(
     Ok(made)
 }
 
-fn words_of(alloc: Global, slack: Slack, program: &Program) -> Result<WordProgram, NoMemory>
-    requires lazy { IsLazyWithin (lazy_of slack) program.now.modulus }
-    requires small { slack.limit < 2 ^ 32 }
-    requires half { slack.half ≤ 2 ^ 32 }
+fn words_of(alloc: Global, laziness: Laziness, program: &Program) -> Result<WordProgram, NoMemory>
+    requires lazy { IsLazyWithin (lazy_of laziness) program.now.modulus }
+    requires small { laziness.limit < 2 ^ 32 }
+    requires half { laziness.half ≤ 2 ^ 32 }
     ensures { IfOk result (λ words. plain_word_program words
-        ≡ quickened (lazy_of slack) (plain_program program.now)) }
+        ≡ quickened (lazy_of laziness) (plain_program program.now)) }
 {
     let setting = Setting {
-        slack,
+        laziness,
         modulus: program.modulus,
         lanes: program.lanes,
         regs: program.regs,
     };
     let tables = copied_tables(alloc, &program.tables)?;
-    let quotients = quotient_tables(alloc, slack, program.modulus, &program.tables)?;
+    let quotients = quotient_tables(alloc, laziness, program.modulus, &program.tables)?;
     let phases = quicken_phases(alloc, setting, program.procs, &program.phases)?;
     Ok(WordProgram {
-        half: slack.half,
-        rough: slack.rough,
+        half: laziness.half,
+        rough: laziness.rough,
         size: program.size,
         modulus: program.modulus,
         procs: program.procs,
@@ -184,16 +184,16 @@ fn words_of(alloc: Global, slack: Slack, program: &Program) -> Result<WordProgra
 /// The program on words. Where the program fits it leaves the residues that the program leaves, for every
 /// vector of residues and every order of turns; where no processor touches a line that another writes, that
 /// order is free.
-pub fn quicken(alloc: Global, slack: Slack, program: &Program) -> Result<WordProgram, NoMemory>
-    requires lazy { IsLazyWithin (lazy_of slack) program.now.modulus }
-    requires small { slack.limit < 2 ^ 32 }
-    requires half { slack.half ≤ 2 ^ 32 }
+pub fn quicken(alloc: Global, laziness: Laziness, program: &Program) -> Result<WordProgram, NoMemory>
+    requires lazy { IsLazyWithin (lazy_of laziness) program.now.modulus }
+    requires small { laziness.limit < 2 ^ 32 }
+    requires half { laziness.half ≤ 2 ^ 32 }
     ensures made { IfOk result (λ words. plain_word_program words
-        ≡ quickened (lazy_of slack) (plain_program program.now)) }
+        ≡ quickened (lazy_of laziness) (plain_program program.now)) }
     ensures fits { IfOk result (λ words. FitsAs words program.now) }
     ensures same { IfOk result (λ words. LeavesTheSame words program.now) }
     ensures order { IfOk result (λ words. OrderIsFreeOf words program.now) }
 {
-    let words = words_of(alloc, slack, program)?;
+    let words = words_of(alloc, laziness, program)?;
     Ok(words)
 }

@@ -55,7 +55,7 @@ pub(crate) fn settle(
         (bounds.new ≡ (settled_in setting left right target bounds.old).bounds) }
     ensures sane { OnOk result (AreBoundsWithin setting bounds.new) }
 {
-    let limit = setting.slack.limit;
+    let limit = setting.laziness.limit;
     let mut before = Vec::new(alloc);
     for _ in 0..2 * limit {
         if bound_of(limit, bounds, left) + bound_of(limit, bounds, right) <= target {

@@ -7,32 +7,32 @@ ghost use Rattle.icode.specs.Plain.{plain_stmt, plain_body};
 ghost use Rattle.word_code.specs.Quicken.{loosened};
 ghost use Rattle.word_code.specs.Setting.{IsSettingWithin, AreBoundsWithin};
 ghost use Rattle.word_code.specs.Setting.{quick_needed_in, quick_alone_in};
-ghost use Rattle.word_code.specs.View.{lazy_of, plain_word_stmt, plain_word_body};
+ghost use Rattle.word_code.specs.Views.{lazy_of, plain_word_stmt, plain_word_body};
 
 use crate::needs::{Needs, needs_of_each};
-use crate::program::{Setting, Slack, WordStmt};
+use crate::program::{Setting, Laziness, WordStmt};
 use crate::quicken::quicken_stmt;
 use icode::program::Stmt;
 use memory::NoMemory;
 use std::alloc::Global;
 
-fn loosened(slack: Slack, needs: Needs) -> Slack
-    ensures { lazy_of result ≡ loosened (lazy_of slack) needs }
+fn loosened(laziness: Laziness, needs: Needs) -> Laziness
+    ensures { lazy_of result ≡ loosened (lazy_of laziness) needs }
 {
-    Slack {
-        half: slack.half,
-        rough: slack.rough,
+    Laziness {
+        half: laziness.half,
+        rough: laziness.rough,
         keep_a: if needs.of_a {
-            slack.keep_a
+            laziness.keep_a
         } else {
-            slack.limit
+            laziness.limit
         },
         keep_b: if needs.of_b {
-            slack.keep_b
+            laziness.keep_b
         } else {
-            slack.limit
+            laziness.limit
         },
-        limit: slack.limit,
+        limit: laziness.limit,
     }
 }
 
@@ -54,7 +54,7 @@ fn quicken_needed(
         (bounds.new ≡ (quick_needed_in setting needs stmt.now bounds.old).bounds) }
 {
     let here = Setting {
-        slack: loosened(setting.slack, needs),
+        laziness: loosened(setting.laziness, needs),
         modulus: setting.modulus,
         lanes: setting.lanes,
         regs: setting.regs,
@@ -75,7 +75,7 @@ pub(crate) fn quicken_alone(
         (λ made. plain_word_body made.items ≡ quick_alone_in setting (plain_body body.now)) }
 {
     let each = needs_of_each(alloc, body)?;
-    let mut bounds = vec![in alloc; setting.slack.limit; setting.regs as usize]?;
+    let mut bounds = vec![in alloc; setting.laziness.limit; setting.regs as usize]?;
     let bounds = bounds.as_mut_slice();
     let mut made = Vec::new(alloc);
     for index in 0..body.len() {

@@ -4,7 +4,7 @@ ghost use Rattle.tree_model.specs.Breakdown.{breakdown_of};
 ghost use Rattle.tree_model.specs.Chosen.{IsWholeTree};
 
 use crate::contexts::{context, tree_of};
-use kernel_gen::{Instruction, Kernel, kernel};
+use kernel_gen::{KernelOp, Kernel, kernel};
 use memory::NoMemory;
 use std::alloc::{AllocError, Global};
 use std::fmt::Write;
@@ -20,20 +20,20 @@ dft 2x2 mod 17 root 16x16; dim 2 2|add 4 0 1, sub 5 0 1, add 6 2 3, sub 7 2 3, a
 ";
 
 // The instruction by its word and numbers.
-fn write_instruction(text: &mut String, instruction: &Instruction) -> Result<(), AllocError> {
+fn write_instruction(text: &mut String, instruction: &KernelOp) -> Result<(), AllocError> {
     match *instruction {
-        Instruction::Add {
+        KernelOp::Add {
             register,
             left,
             right,
         } => write!(text, "add {register} {left} {right}, "),
-        Instruction::Sub {
+        KernelOp::Sub {
             register,
             left,
             right,
         } => write!(text, "sub {register} {left} {right}, "),
-        Instruction::Neg { register, source } => write!(text, "neg {register} {source}, "),
-        Instruction::Mul {
+        KernelOp::Neg { register, source } => write!(text, "neg {register} {source}, "),
+        KernelOp::Mul {
             register,
             source,
             factor,

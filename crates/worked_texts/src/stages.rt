@@ -9,7 +9,7 @@ ghost use Rattle.smp_rewrite.specs.Cut.{smp_of};
 ghost use Rattle.smp_rewrite.specs.Smp.{smp_on};
 ghost use Rattle.smp_rewrite.specs.Views.{plain_smp};
 ghost use Rattle.sigma_spl.specs.Shared.Targets.{target_of};
-ghost use Rattle.smp_rewrite.specs.LayoutSteps.Whole.{whole_of};
+ghost use Rattle.smp_rewrite.specs.Layout.Whole.{whole_of};
 ghost use Rattle.tree_model.specs.Breakdown.{breakdown_of};
 ghost use Rattle.tree_model.specs.Chosen.{IsWholeTree};
 ghost use Rattle.vec_rewrite.specs.Turning.{vec_of};

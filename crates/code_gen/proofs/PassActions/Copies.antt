@@ -4,7 +4,7 @@ use Rattle.std.proofs.Common.{◌∷◌, ◌++◌, subst, mod-lt, div-lt_iff_lt-
 use Rattle.std.proofs.Common.{inl, inr, map, mul_comm, Contains, Option, Some, None, div-add-mod', mod-eq_of_lt}
 use Rattle.std.proofs.lemmas.Bool.Decides.{nat_tests}
 use Rattle.std.proofs.lemmas.List.Elements.{All-contains}
-use Rattle.icode.specs.CodeLaws.Nests.{AreInRange}
+use Rattle.icode.specs.Sequences.Nests.{AreInRange}
 use Rattle.loop_nests.proofs.Frames.{framed, loops-are, one_or_several}
 use Rattle.operators.proofs.Lists.{factor_positive, place_below, at-list_below}
 use Rattle.code_gen.specs.PassActions.Acts.{load_at, store_at, pass_registers}
@@ -16,7 +16,7 @@ use Rattle.sigma_spl.specs.Copies.{loops_of, all_stored}
 use Rattle.sigma_spl.specs.Nest.{PlainNest, PlainMultiplier, load_place, store_place, copies_of, multiplied_on}
 use Rattle.sigma_spl.specs.Nest.{nests_on}
 use Rattle.sigma_spl.specs.Work.{PlainWork, tile, work_size, vectors_of, kernel, rows, horner, copy, work_on, trees_of}
-use Rattle.icode.proofs.CodeLaws.Fills.{word}
+use Rattle.icode.proofs.Sequences.Fills.{word}
 use Rattle.icode.specs.Machine.{Local}
 use Rattle.operators.specs.Sum.{list_below}
 use Rattle.operators.proofs.Places.{turn_at}
@@ -24,7 +24,7 @@ use Rattle.code_gen.specs.PassActions.Laws.{AreApart, CanBegin}
 use Rattle.tree_model.proofs.TreeProducts.{trees-below}
 use Rattle.code_gen.proofs.PassActions.Finish.{finished, finished_lane, Task, IsReady}
 use Rattle.code_gen.proofs.PassActions.Once.{stored-once}
-use Rattle.operators.specs.TensorPaths.Path as paths
+use Rattle.operators.specs.Paths.Tensors as paths
 
 -- ---- the copies of a processor and a lane
 

@@ -8,11 +8,11 @@ use Rattle.icode.specs.declared.action.Action.{Action}
 use Rattle.icode.specs.declared.action.Action.TheVariants.{Load, Zero, Tile}
 use Rattle.icode.proofs.Counting.{add-up}
 use Rattle.icode.specs.Machine.{counts_of}
-use Rattle.icode.specs.CodeLaws.Lanes.{weighted_operations}
-use Rattle.icode.specs.CodeLaws.Nests.{bodies, nest, loads}
-use Rattle.kernel_gen.specs.Instructions.{actions_by, code_cost, action_by}
-use Rattle.kernel_gen.specs.declared.straight.Instruction.{Instruction}
-use Rattle.kernel_gen.proofs.Instructions.{actions-cost, no-traffic, actions-operations}
+use Rattle.icode.specs.Sequences.Lanes.{weighted_operations}
+use Rattle.icode.specs.Sequences.Nests.{bodies, nest, loads}
+use Rattle.kernel_gen.specs.KernelOps.{actions_by, code_cost, action_by}
+use Rattle.kernel_gen.specs.declared.straight.KernelOp.{KernelOp}
+use Rattle.kernel_gen.proofs.KernelOps.{actions-cost, no-traffic, actions-operations}
 use Rattle.kernel_gen.proofs.Pieces.{weighted-append}
 use Rattle.code_gen.specs.PassActions.Acts.{finish_acts, items_acts, load_at, rows_acts, copy_acts, nest_acts}
 use Rattle.code_gen.specs.PassActions.Acts.{pass_acts, term_acts, horner_acts}
@@ -20,7 +20,7 @@ use Rattle.operators.specs.declared.target.Target.{Target}
 use Rattle.sigma_spl.specs.Counts.{copies_in, multiplier_cost}
 use Rattle.sigma_spl.specs.Nest.{PlainMultiplier, PlainNest}
 use Rattle.sigma_spl.specs.Shared.Names.{Share, lanes_round, own_copies, share_of}
-use Rattle.icode.proofs.CodeLaws.ByLane.{weighted_is_by_lane, weight_of_one}
+use Rattle.icode.proofs.Sequences.ByLane.{weighted_is_by_lane, weight_of_one}
 use Rattle.kernel_gen.specs.Kernel.{trees_kernel}
 use Rattle.tree_model.specs.KernelCosts.{trees_cost, CanMake}
 use Rattle.kernel_gen.proofs.Products.{trees-does}
@@ -104,7 +104,7 @@ module _ (weight lanes : ℕ) where
 -- ---- copies
 
 -- code has its cost on each lane
-pub counts-code : (weight lanes price : ℕ) (code : List Instruction) → code_cost weight code ≡ price →
+pub counts-code : (weight lanes price : ℕ) (code : List KernelOp) → code_cost weight code ≡ price →
     tally weight lanes (actions_by lanes code) ≡ counts (lanes * price) 0 0
 counts-code weight lanes price code costs = let none = no-traffic lanes code in counts-same _ _ (ap (λ o. lanes * o) (actions-cost weight lanes code ∙ costs)) none.0 none.1
 
@@ -248,10 +248,10 @@ module _ (weight : ℕ) (c : Target) (lanes : 0 < c.lanes) (modulus : 2 ≤ c.mo
 -- ---- the actions of straight-line code: there is one for each operation
 
 -- each instruction is an operation
-cost-is : (code : List Instruction) → code_cost 1 code ≡ length code
+cost-is : (code : List KernelOp) → code_cost 1 code ≡ length code
 cost-is code = weight_of_one (actions_by 1 code) ∙ actions-operations 1 code
 
-pub code-length : (lanes : ℕ) (code : List Instruction) → length (actions_by lanes code) ≡ code_cost 1 code
+pub code-length : (lanes : ℕ) (code : List KernelOp) → length (actions_by lanes code) ≡ code_cost 1 code
 code-length lanes code = length-map code (action_by lanes) ∙ sym (cost-is code)
 
 -- a kernel has a register for each input and for each operation
@@ -303,7 +303,7 @@ module _ (lanes : ℕ) (some : 0 < lanes) where
   room-loads : (n : ℕ) (from : ℕ → ℕ) → HasRoom 0 (loads n from)
   room-loads n from = less 0 (n * 0) (loads n from) (omega arith) (room-bodies 0 n (λ k. Load k (from k) ∷ []) (λ k. omega arith))
 
-  room-code : (code : List Instruction) → HasRoom 0 (actions_by lanes code)
+  room-code : (code : List KernelOp) → HasRoom 0 (actions_by lanes code)
   room-code code =
       let long = code-length lanes code in
       let counts = counts-code 1 lanes (code_cost 1 code) code refl in

@@ -6,13 +6,13 @@ use Rattle.icode.proofs.Lines.{Contains-head, Contains-tail}
 use Rattle.icode.specs.Actions.{lane_factors}
 use Rattle.icode.specs.declared.action.Action.{Action}
 use Rattle.icode.specs.declared.action.Action.TheVariants.{Load, Store, Zero, Add, Sub, Neg, Mul, Tile}
-use Rattle.icode.specs.CodeLaws.Nests.{bodies, nest, loads, AreInRange}
-use Rattle.kernel_gen.specs.Instructions.{AreWithin, IsWithin, action_by, actions_by}
+use Rattle.icode.specs.Sequences.Nests.{bodies, nest, loads, AreInRange}
+use Rattle.kernel_gen.specs.KernelOps.{AreWithin, IsWithin, action_by, actions_by}
 use Rattle.kernel_gen.specs.Kernel.{trees_kernel}
-use Rattle.kernel_gen.specs.declared.straight.Instruction.{Instruction}
-use Rattle.kernel_gen.specs.declared.straight.Instruction.TheVariants as instructions
+use Rattle.kernel_gen.specs.declared.straight.KernelOp.{KernelOp}
+use Rattle.kernel_gen.specs.declared.straight.KernelOp.TheVariants as instructions
 use Rattle.kernel_gen.proofs.Below.{at-AllBelow}
-use Rattle.kernel_gen.proofs.Instructions.{factors-fit}
+use Rattle.kernel_gen.proofs.KernelOps.{factors-fit}
 use Rattle.kernel_gen.proofs.Products.{trees-does}
 use Rattle.ring_mod.specs.Residue.{power_mod}
 use Rattle.code_gen.specs.PassActions.Acts.{load_at, store_at, finish_acts, rows_acts, items_acts, term_acts}
@@ -45,7 +45,7 @@ module _ (c : Target) (regs : ℕ) (some : 0 < c.modulus) (P : Action → Type 0
       has (Mul r x (lane_factors c.lanes factor)) tt
       (record { registers = (low, high); factors = factors-fit c.modulus c.lanes factor some small })
 
-  in-code : (bound : ℕ) → bound ≤ regs → (code : List Instruction) → AreWithin c.modulus bound code →
+  in-code : (bound : ℕ) → bound ≤ regs → (code : List KernelOp) → AreWithin c.modulus bound code →
       All P (actions_by c.lanes code)
   in-code bound low [] are = All-nil P
   in-code bound low (i ∷ code) are =
@@ -54,7 +54,7 @@ module _ (c : Target) (regs : ℕ) (some : 0 < c.modulus) (P : Action → Type 0
       wider : (r : ℕ) → r < bound → r < regs
       wider r below = omega (arith, below, low)
 
-      one : (i : Instruction) → IsWithin c.modulus bound i → P (action_by c.lanes i)
+      one : (i : KernelOp) → IsWithin c.modulus bound i → P (action_by c.lanes i)
       one (instructions.Add r x y) is =
           has (Add r x y) tt (record { registers = (wider r is.0, wider x is.1, wider y is.2); factors = tt })
       one (instructions.Sub r x y) is =

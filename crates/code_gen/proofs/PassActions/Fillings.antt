@@ -3,9 +3,9 @@ use Rattle.std.proofs.Common.{◌≡◌, ℕ, zero, suc, ◌+◌, ◌*◌, ◌-�
 use Rattle.std.proofs.Common.{◌∷◌, subst, mul_comm, Contains, slice_index, inl, inr, ◌⊎◌}
 use Rattle.icode.specs.declared.action.Action.{Action}
 use Rattle.icode.specs.declared.action.Action.TheVariants.{Tile}
-use Rattle.icode.specs.CodeLaws.Nests.{AreInRange}
-use Rattle.icode.proofs.CodeLaws.Fills.{Fills, fills-none, fills-append, fills-fewer, fills-nest}
-use Rattle.kernel_gen.specs.Instructions.{actions_by}
+use Rattle.icode.specs.Sequences.Nests.{AreInRange}
+use Rattle.icode.proofs.Sequences.Fills.{Fills, fills-none, fills-append, fills-fewer, fills-nest}
+use Rattle.kernel_gen.specs.KernelOps.{actions_by}
 use Rattle.kernel_gen.specs.Kernel.{trees_kernel}
 use Rattle.kernel_gen.proofs.Products.{trees-does}
 use Rattle.operators.specs.Sum.{list_below, sum_below}
@@ -34,7 +34,7 @@ use Rattle.code_gen.proofs.PassActions.StraightCopies.{finish-few, turned, tile-
 use Rattle.code_gen.proofs.PassActions.StraightCopies.{scaled_sum, entry_acts, scaled_acts, terms-turn, scaled-turn}
 use Rattle.code_gen.proofs.PassActions.Finish.{Task, IsReady}
 use Rattle.code_gen.proofs.PassActions.Copies.{IsOnLane, copy-on_lane, in_code, of_code}
-use Rattle.operators.specs.TensorPaths.Path as paths
+use Rattle.operators.specs.Paths.Tensors as paths
 
 -- the same loops round other work
 abbrev pub working : PlainNest → PlainWork → PlainNest

@@ -5,13 +5,13 @@ use Rattle.std.proofs.lemmas.List.{get_or_append_left}
 use Rattle.icode.specs.declared.action.Action.{Action}
 use Rattle.icode.specs.declared.action.Action.TheVariants.{Store, Mul}
 use Rattle.icode.specs.Machine.{Local, effect, effects}
-use Rattle.icode.specs.CodeLaws.Lanes.{lane_of, Registers}
-use Rattle.icode.proofs.CodeLaws.Fills.{word, Fills, fills-after}
-use Rattle.icode.proofs.CodeLaws.Stores.{other_word, length-memory, length-registers, Stored, store_fills}
+use Rattle.icode.specs.Sequences.Lanes.{lane_of, Registers}
+use Rattle.icode.proofs.Sequences.Fills.{word, Fills, fills-after}
+use Rattle.icode.proofs.Sequences.Stores.{other_word, length-memory, length-registers, Stored, store_fills}
 use Rattle.icode.specs.Actions.{lane_factors}
 use Rattle.operators.specs.Sum.{list_below}
 use Rattle.operators.proofs.Lists.{length-list_below, at-list_below}
-use Rattle.icode.proofs.CodeLaws.ByLane.{effect_by_lane, this_register}
+use Rattle.icode.proofs.Sequences.ByLane.{effect_by_lane, this_register}
 use Rattle.operators.specs.declared.target.Target.{Target}
 use Rattle.sigma_spl.specs.Shared.Machine.{item_of, values_of}
 use Rattle.ring_mod.specs.Residue.{product_mod}

@@ -5,15 +5,15 @@ use Rattle.std.proofs.lemmas.List.Elements.{Contains-append_cases, Contains-appe
 use Rattle.std.proofs.lemmas.Grind.{flat_map-append}
 use Rattle.icode.specs.declared.action.Action.{Action}
 use Rattle.icode.specs.declared.action.Action.TheVariants.{Load, Add, Sub, Neg, Mul, Tile}
-use Rattle.icode.specs.CodeLaws.Nests.{bodies, loads}
+use Rattle.icode.specs.Sequences.Nests.{bodies, loads}
 use Rattle.icode.specs.Fresh.{read_registers, put_registers}
 use Rattle.icode.proofs.FreshActions.{range_item, only_item}
 use Rattle.icode.proofs.Lines.{Contains-head, Contains-tail, Contains-nil, Contains-range}
-use Rattle.kernel_gen.specs.Instructions.{action_by, actions_by}
+use Rattle.kernel_gen.specs.KernelOps.{action_by, actions_by}
 use Rattle.kernel_gen.specs.Kernel.{trees_kernel}
 use Rattle.kernel_gen.specs.Ordered.{AreOrdered, IsNext}
-use Rattle.kernel_gen.specs.declared.straight.Instruction.{Instruction}
-use Rattle.kernel_gen.specs.declared.straight.Instruction.TheVariants as instructions
+use Rattle.kernel_gen.specs.declared.straight.KernelOp.{KernelOp}
+use Rattle.kernel_gen.specs.declared.straight.KernelOp.TheVariants as instructions
 use Rattle.kernel_gen.proofs.Below.{at-AllBelow}
 use Rattle.kernel_gen.proofs.Products.{trees-does}
 use Rattle.code_gen.specs.PassActions.Acts.{load_at, finish_acts, rows_acts, items_acts, term_acts, horner_acts}
@@ -90,19 +90,19 @@ module _ (lanes : ℕ) where
   next_below (suc next) (suc r) low =
       ⊎_elim (λ (a : r < next). inl (omega (arith, a))) (λ (b : next ≡ r). inr (ap suc b)) (next_below next r (omega (arith, low)))
 
-  put_next : (i : Instruction) (next : ℕ) → IsNext next i → Contains (put_registers lanes (action_by lanes i)) next
+  put_next : (i : KernelOp) (next : ℕ) → IsNext next i → Contains (put_registers lanes (action_by lanes i)) next
   put_next (instructions.Add r x y) next is = subst (λ k. Contains (r ∷ []) k) is.0 (Contains-head r [])
   put_next (instructions.Sub r x y) next is = subst (λ k. Contains (r ∷ []) k) is.0 (Contains-head r [])
   put_next (instructions.Neg r x) next is = subst (λ k. Contains (r ∷ []) k) is.0 (Contains-head r [])
   put_next (instructions.Mul r x c) next is = subst (λ k. Contains (r ∷ []) k) is.0 (Contains-head r [])
 
-  read_below : (i : Instruction) (next k : ℕ) → IsNext next i → Contains (read_registers lanes (action_by lanes i)) k → k < next
+  read_below : (i : KernelOp) (next k : ℕ) → IsNext next i → Contains (read_registers lanes (action_by lanes i)) k → k < next
   read_below (instructions.Add r x y) next k is has = ⊎_elim (λ (e : x ≡ k). subst (λ k. k < next) e is.1) (λ (e : y ≡ k). subst (λ k. k < next) e is.2) (two_items x y k has)
   read_below (instructions.Sub r x y) next k is has = ⊎_elim (λ (e : x ≡ k). subst (λ k. k < next) e is.1) (λ (e : y ≡ k). subst (λ k. k < next) e is.2) (two_items x y k has)
   read_below (instructions.Neg r x) next k is has = subst (λ k. k < next) (only_item x k has) is.1
   read_below (instructions.Mul r x c) next k is has = subst (λ k. k < next) (only_item x k has) is.1
 
-  code_reads : (K : ℕ → Type 0) (next : ℕ) (code : List Instruction) → ((r : ℕ) → r < next → K r) → AreOrdered next code →
+  code_reads : (K : ℕ → Type 0) (next : ℕ) (code : List KernelOp) → ((r : ℕ) → r < next → K r) → AreOrdered next code →
       Reads K (actions_by lanes code)
   code_reads K next [] has ordered = tt
   code_reads K next (i ∷ code) has ordered = (
@@ -114,7 +114,7 @@ module _ (lanes : ℕ) where
         (next_below next r low)) ordered.1,
   )
 
-  code_puts : (next : ℕ) (code : List Instruction) → AreOrdered next code → (r : ℕ) → r < next + length code →
+  code_puts : (next : ℕ) (code : List KernelOp) → AreOrdered next code → (r : ℕ) → r < next + length code →
       (r < next) ⊎ Puts (actions_by lanes code) r
   code_puts next [] ordered r low = inl (omega (arith, low))
   code_puts next (i ∷ code) ordered r low =

@@ -5,13 +5,13 @@ use Rattle.std.proofs.lemmas.Bool.{cases_eq}
 use Rattle.std.proofs.lemmas.Bool.Decides.{nat_tests}
 use Rattle.operators.specs.Sum.{sum_below}
 use Rattle.operators.proofs.Scatters.{sum_below-only, hit}
-use Rattle.operators.proofs.TensorPaths.PathLoops.{sum_below-zero}
+use Rattle.operators.proofs.Paths.PathLoops.{sum_below-zero}
 use Rattle.sigma_spl.specs.Copies.{loops_of, taken, stored, all_stored, hits}
 use Rattle.sigma_spl.specs.Nest.{PlainNest, copies_of}
 use Rattle.sigma_spl.proofs.CopiesMerge.{nest-none}
-use Rattle.sigma_spl.proofs.PassPlaces.{nest-least}
-use Rattle.operators.specs.TensorPaths.Loop.{nest_sum, loop_at}
-use Rattle.operators.specs.TensorPaths.Path.{Path, count_of, AreInRange}
+use Rattle.sigma_spl.proofs.Places.{nest-least}
+use Rattle.operators.specs.Paths.Loop.{nest_sum, loop_at}
+use Rattle.operators.specs.Paths.Tensors.{Path, count_of, AreInRange}
 
 -- ---- sums of at most one
 

@@ -6,25 +6,25 @@ use Rattle.std.proofs.Math.Nat.{zero-mod, mod-mod}
 use Rattle.icode.specs.declared.action.Action.{Action}
 use Rattle.icode.specs.declared.action.Action.TheVariants.{Mul, Tile, Load, Zero, Add}
 use Rattle.icode.specs.Machine.{Local, effect, effects}
-use Rattle.icode.specs.CodeLaws.Lanes.{Registers, lane_of, AreArithmetic, lane_effect, with_register}
-use Rattle.icode.specs.CodeLaws.Nests.{bodies, loads}
-use Rattle.icode.proofs.CodeLaws.ByLane.{effect_by_lane, other_register, lists_follow, arithmetic_is_by_lane}
-use Rattle.icode.proofs.CodeLaws.Fills.{Fills, fills-loop, fills-after}
-use Rattle.icode.proofs.CodeLaws.Stores.{Stored, loads-memory, loads-registers, load_by_lane, length-registers}
+use Rattle.icode.specs.Sequences.Lanes.{Registers, lane_of, AreArithmetic, lane_effect, with_register}
+use Rattle.icode.specs.Sequences.Nests.{bodies, loads}
+use Rattle.icode.proofs.Sequences.ByLane.{effect_by_lane, other_register, lists_follow, arithmetic_is_by_lane}
+use Rattle.icode.proofs.Sequences.Fills.{Fills, fills-loop, fills-after}
+use Rattle.icode.proofs.Sequences.Stores.{Stored, loads-memory, loads-registers, load_by_lane, length-registers}
 use Rattle.operators.specs.declared.target.Target.{Target}
 use Rattle.sigma_spl.specs.Nest.{PlainMultiplier, PlainNest}
 use Rattle.code_gen.specs.PassActions.Acts.{store_at, finish_acts, with_multiplier, items_acts, load_at, rows_acts}
-use Rattle.icode.proofs.CodeLaws.Placing.{slice_index-map}
-use Rattle.kernel_gen.specs.Instructions.{actions_by, code_effect}
+use Rattle.icode.proofs.Sequences.Placing.{slice_index-map}
+use Rattle.kernel_gen.specs.KernelOps.{actions_by, code_effect}
 use Rattle.kernel_gen.specs.Making.{Made}
 use Rattle.kernel_gen.proofs.Below.{AllBelow, AllBelow-at, at-AllBelow}
-use Rattle.kernel_gen.proofs.Instructions.{actions-arithmetic, actions-effect}
+use Rattle.kernel_gen.proofs.KernelOps.{actions-arithmetic, actions-effect}
 use Rattle.kernel_gen.proofs.Kernels.{firsts, map-firsts}
 use Rattle.kernel_gen.proofs.Pieces.{DoesAt}
 use Rattle.operators.specs.Operator.{Operator}
 use Rattle.operators.specs.Sum.{list_below, sum_below}
 use Rattle.operators.proofs.Lists.{length-list_below, at-list_below, list_below-same}
-use Rattle.icode.proofs.CodeLaws.Tiles.{tile_by_lane}
+use Rattle.icode.proofs.Sequences.Tiles.{tile_by_lane}
 use Rattle.icode.specs.Actions.{lane_factors}
 use Rattle.ring_mod.proofs.Congruence.{same-add}
 use Rattle.code_gen.proofs.PassActions.Finish.{register, Task, IsReady, AreInputs, AreOutputs, ready-after_store}

@@ -12,7 +12,7 @@ use Rattle.perm_algebra.specs.Room.{constant_of}
 use Rattle.sigma_spl.specs.Shared.Machine.{PlainFrame, first_loop, frame_of, if_several, values_of}
 use Rattle.code_gen.specs.PassCode.Expressions.{factor_at, variables_of, processor_of, remainders_of, quotients_of}
 use Rattle.code_gen.specs.PassCode.Expressions.{divisions_of, expr_of}
-use Rattle.icode.specs.CodeLaws.Nests.{AreInRange}
+use Rattle.icode.specs.Sequences.Nests.{AreInRange}
 use Rattle.operators.specs.declared.target.Target.{Target}
 use Rattle.sigma_spl.specs.Work.{PlainWork, tile}
 use Rattle.perm_algebra.proofs.AffineLaws.{value-le-top}

@@ -18,10 +18,10 @@ use Rattle.operators.proofs.Lists.{list_below-same, length-list_below, at-list_b
 use Rattle.perm_algebra.specs.Affine.{Sum}
 use Rattle.icode.specs.declared.action.Action.{Action}
 use Rattle.icode.specs.declared.action.Action.TheVariants.{Load, Store, Zero, Add, Mul}
-use Rattle.icode.specs.CodeLaws.Nests.{bodies, loads}
-use Rattle.kernel_gen.specs.Instructions.{action_by, actions_by, op_of}
-use Rattle.kernel_gen.specs.declared.straight.Instruction.{Instruction}
-use Rattle.kernel_gen.proofs.Instructions.{step-is}
+use Rattle.icode.specs.Sequences.Nests.{bodies, loads}
+use Rattle.kernel_gen.specs.KernelOps.{action_by, actions_by, op_of}
+use Rattle.kernel_gen.specs.declared.straight.KernelOp.{KernelOp}
+use Rattle.kernel_gen.proofs.KernelOps.{step-is}
 use Rattle.code_gen.specs.PassActions.Acts.{load_at, store_at, factors_at, finish_acts, rows_acts, items_acts}
 use Rattle.code_gen.specs.PassActions.Acts.{term_acts, horner_acts}
 use Rattle.code_gen.specs.PassCode.Conditions.{IsInside}
@@ -210,12 +210,12 @@ module _ (c : Target) (pass : PlainNest) (p : PlainProgram) (here : IsFor c p) (
   pub emits-plain : (a : Action) → Emits (plain a ∷ []) (a ∷ [])
   emits-plain a = emits-one (plain a) a refl (inside-plain a)
 
-  emits-instruction : (i : Instruction) (vs : List ℕ) → Emits (step_of p (op_of i) vs q ∷ []) (action_by c.lanes i ∷ [])
+  emits-instruction : (i : KernelOp) (vs : List ℕ) → Emits (step_of p (op_of i) vs q ∷ []) (action_by c.lanes i ∷ [])
   emits-instruction i vs =
       let is : step_of p (op_of i) vs q ≡ plain (action_by c.lanes i) = step-is p i vs q ∙ ap (λ (n : ℕ). plain (action_by n i)) here.lanes in
       emits-one (step_of p (op_of i) vs q) (action_by c.lanes i) (ap (λ (s : Step). s.action) is) (subst IsInside (sym is) (inside-plain (action_by c.lanes i)))
 
-  pub emits-straight : (code : List Instruction) (vs : List ℕ) →
+  pub emits-straight : (code : List KernelOp) (vs : List ℕ) →
       Emits (steps_of_body p (straight_body code) vs q) (actions_by c.lanes code)
   emits-straight [] vs = emits-none
   emits-straight (i ∷ code) vs = emits-then p q (op_of i) (straight_body code) vs (action_by c.lanes i) (actions_by c.lanes code) (emits-instruction i vs) (emits-straight code vs)

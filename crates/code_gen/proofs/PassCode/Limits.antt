@@ -5,8 +5,8 @@ use Rattle.std.proofs.lemmas.Bool.{and_from, and_parts, le-leb, lt-ltb}
 use Rattle.icode.specs.declared.program.Array.{Array}
 use Rattle.icode.specs.Limits.{is_small, is_expr_within, is_op_within, is_body_within}
 use Rattle.icode.specs.Plain.{PlainBody, PlainExpr, NoStmts, AndStmts, Loop, Do, Load, Add, MulTable}
-use Rattle.kernel_gen.specs.Instructions.{IsWithin, op_of}
-use Rattle.kernel_gen.specs.declared.straight.Instruction.{Instruction}
+use Rattle.kernel_gen.specs.KernelOps.{IsWithin, op_of}
+use Rattle.kernel_gen.specs.declared.straight.KernelOp.{KernelOp}
 use Rattle.sigma_spl.specs.Shared.Machine.{PlainFrame, frame_of, loop_counts}
 use Rattle.code_gen.specs.PassCode.Statements.{do_only, finish_body, followed_by, in_a_row, loads_body, loop_value}
 use Rattle.code_gen.specs.PassCode.Statements.{nested, one_factor, place_at, product_op, product_place, straight_body}
@@ -30,8 +30,8 @@ use Rattle.code_gen.proofs.PassCode.Within.{small-positive}
 use Rattle.code_gen.proofs.PassActions.Fillings.{working}
 use Rattle.code_gen.proofs.PassCode.SharedTables.{extends-longer, multiplier-extends, number-small, work-extends}
 use Rattle.code_gen.proofs.PassActions.StraightCopies.{finish-few}
-use Rattle.kernel_gen.specs.Instructions as straight
-use Rattle.kernel_gen.specs.declared.straight.Instruction.TheVariants as instructions
+use Rattle.kernel_gen.specs.KernelOps as straight
+use Rattle.kernel_gen.specs.declared.straight.KernelOp.TheVariants as instructions
 use Rattle.icode.specs.Plain as statements
 
 -- ---- the statements of a pass stand within the limits of programs
@@ -107,13 +107,13 @@ module _ (m : ℕ) where
     small-register : (r : ℕ) → r < next → is_small r ≡ true
     small-register r below = small-is r (omega (arith, below, few))
 
-    op-within : (i : Instruction) → IsWithin m next i → is_op_within m (op_of i) open_loops ≡ true
+    op-within : (i : KernelOp) → IsWithin m next i → is_op_within m (op_of i) open_loops ≡ true
     op-within (instructions.Add r x y) is = and_from _ _ (small-register r is.0) (and_from _ _ (small-register x is.1) (small-register y is.2))
     op-within (instructions.Sub r x y) is = and_from _ _ (small-register r is.0) (and_from _ _ (small-register x is.1) (small-register y is.2))
     op-within (instructions.Neg r x) is = and_from _ _ (small-register r is.0) (small-register x is.1)
     op-within (instructions.Mul r x factor) is = and_from _ _ (small-register r is.0) (and_from _ _ (small-register x is.1) (lt-ltb factor m is.2))
 
-    pub straight-within : (code : List Instruction) → straight.AreWithin m next code →
+    pub straight-within : (code : List KernelOp) → straight.AreWithin m next code →
         is_body_within m (straight_body code) open_loops ≡ true
     straight-within [] are = refl
     straight-within (i ∷ code) are = and_from _ _ (op-within i are.0) (straight-within code are.1)

@@ -6,8 +6,8 @@ use Rattle.std.proofs.lemmas.List.Elements.{All-contains}
 use Rattle.icode.specs.declared.program.Array.{Array}
 use Rattle.icode.specs.Actions.{steps_of_body}
 use Rattle.icode.specs.Plain.{PlainProgram}
-use Rattle.icode.specs.CodeLaws.Nests.{AreInRange}
-use Rattle.kernel_gen.specs.Instructions.{actions_by}
+use Rattle.icode.specs.Sequences.Nests.{AreInRange}
+use Rattle.kernel_gen.specs.KernelOps.{actions_by}
 use Rattle.kernel_gen.specs.Kernel.{trees_kernel}
 use Rattle.operators.proofs.Lists.{row-of, column-of}
 use Rattle.perm_algebra.specs.Affine.{Sum, constant, value}
@@ -43,7 +43,7 @@ use Rattle.code_gen.proofs.PassCode.SharedTables.{extends-longer, extends-more, 
 use Rattle.code_gen.proofs.PassCode.Limits.{within-followed, nest-within}
 use Rattle.icode.specs.declared.action.Action.TheVariants as actions
 use Rattle.icode.specs.Plain as statements
-use Rattle.operators.specs.TensorPaths.Path as paths
+use Rattle.operators.specs.Paths.Tensors as paths
 
 -- ---- tables
 

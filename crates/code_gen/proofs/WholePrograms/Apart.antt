@@ -22,7 +22,7 @@ use Rattle.code_gen.specs.PassCode.Conditions.{CanWritePass}
 use Rattle.sigma_spl.specs.Shared.Owners.{IsOwner, all_passes}
 use Rattle.operators.specs.declared.target.Target.{Target}
 use Rattle.code_gen.specs.PassCode.Program.{written_array, array_after, count_in}
-use Rattle.code_gen.specs.PassCode.Contract.{AreParts, ArePhaseParts, IsPart, Stays, in_a_row, joined}
+use Rattle.code_gen.specs.PassCode.Contract.{AreParts, ArePhaseParts, IsPart, Stays, in_a_row, concatenated}
 use Rattle.code_gen.proofs.PassActions.Copies.{loaded-below, stored-below}
 use Rattle.code_gen.proofs.PassActions.Every.{StaysInRegisters, every}
 use Rattle.code_gen.proofs.WholePrograms.Processor.{number, IsOther, start-is, target-other, Pass, AllFrom, AllKnown}
@@ -297,7 +297,7 @@ module _ (c : Target) (enough : c.size ≤ whole_lines c.size c.line) (code : Co
   all_parts (ps ∷ more) t source = parts_of (count_in more) ps t source ∷ all_parts more (t + length ps) (array_after (count_in more) ps t source)
 
   parts-whole : (after : ℕ) (ps : List Pass) (t : ℕ) (source : Array) →
-      joined (parts_of after ps t source) ≡ passes_acts c words after ps t source q
+      concatenated (parts_of after ps t source) ≡ passes_acts c words after ps t source q
   parts-whole after [] t source = refl
   parts-whole after (p ∷ ps) t source =
       ap (λ rest. pass_acts c p (array_start words source) (array_start words (written_array t (after + length ps))) q ++ rest) (parts-whole after ps (suc t) (written_array t (after + length ps)))

@@ -15,8 +15,8 @@ use Rattle.sigma_spl.proofs.Walk.{nests-vector}
 use Rattle.sigma_spl.specs.Copies.{loops_of, hits}
 use Rattle.sigma_spl.specs.Nest.{PlainNest, copies_of, store_place, nests_on}
 use Rattle.sigma_spl.specs.Work.{work_size}
-use Rattle.operators.specs.TensorPaths.Loop.{nest_sum, loop_at}
-use Rattle.operators.specs.TensorPaths.Path.{Path, count_of, AreInRange}
+use Rattle.operators.specs.Paths.Loop.{nest_sum, loop_at}
+use Rattle.operators.specs.Paths.Tensors.{Path, count_of, AreInRange}
 use Rattle.icode.specs.Actions.{array_start}
 use Rattle.icode.specs.declared.action.Action.{Action}
 use Rattle.icode.specs.declared.program.Array.{Array}
@@ -26,15 +26,15 @@ use Rattle.sigma_spl.specs.Shared.Owners.{all_passes, AllOwn, FirstOwns}
 use Rattle.code_gen.specs.PassActions.Laws.{Runs, AreApart, CanBegin, Leaves}
 use Rattle.code_gen.specs.PassCode.Program.{count_in, written_array, array_after, most_of, most_of_phases}
 use Rattle.icode.specs.declared.program.Array.TheVariants.{X, Y, A, B}
-use Rattle.icode.proofs.CodeLaws.ByLane.{lists_follow}
-use Rattle.icode.proofs.CodeLaws.Stores.{length-memory, length-registers}
+use Rattle.icode.proofs.Sequences.ByLane.{lists_follow}
+use Rattle.icode.proofs.Sequences.Stores.{length-memory, length-registers}
 use Rattle.icode.specs.Machine.{Local, effects}
 use Rattle.sigma_spl.specs.Merged.{phase_on}
 use Rattle.code_gen.proofs.PassActions.Copies.{modulus-some, nest-can, first_value, in_counts, under-several}
 use Rattle.code_gen.proofs.PassActions.Copies.{loaded-below, stored-below, words_apart}
 use Rattle.code_gen.proofs.PassActions.PassesRun.{passes_run}
 use Rattle.code_gen.proofs.PassCode.Writing.{by_zero}
-use Rattle.icode.specs.CodeLaws.Nests as nests
+use Rattle.icode.specs.Sequences.Nests as nests
 
 -- ---- each word of the array is stored by a processor
 

@@ -3,8 +3,8 @@ use Rattle.std.specs.Prelude.{ℕ, ◌+◌, ◌-◌, ◌*◌, max, List, [], ◌
 use Rattle.icode.specs.Actions.{lane_factors}
 use Rattle.icode.specs.declared.action.Action.{Action}
 use Rattle.icode.specs.declared.action.Action.TheVariants.{Load, Store, Zero, Add, Mul, Tile}
-use Rattle.icode.specs.CodeLaws.Nests.{bodies, nest, loads}
-use Rattle.kernel_gen.specs.Instructions.{actions_by}
+use Rattle.icode.specs.Sequences.Nests.{bodies, nest, loads}
+use Rattle.kernel_gen.specs.KernelOps.{actions_by}
 use Rattle.kernel_gen.specs.Kernel.{trees_kernel}
 use Rattle.kernel_gen.specs.Making.{Made}
 use Rattle.operators.specs.declared.target.Target.{Target}

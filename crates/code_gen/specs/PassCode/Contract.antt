@@ -57,14 +57,14 @@ AreParts h t source (zs ∷ passes) (part ∷ parts) =
     (array_start (whole_lines h.size h.line) (written_array t (length passes))) part
     × AreParts h (suc t) (written_array t (length passes)) passes parts
 
-abbrev pub joined : List (List Action) → List Action
-joined [] = []
-joined (part ∷ parts) = part ++ joined parts
+abbrev pub concatenated : List (List Action) → List Action
+concatenated [] = []
+concatenated (part ∷ parts) = part ++ concatenated parts
 
 -- a processor's actions in all phases: one part for each pass
 pub record IsListed (h : Target) (g : PlainMerged) (actions : List Action) : Type 0 where
   pub parts : List (List Action)
-  pub whole : joined parts ≡ actions
+  pub whole : concatenated parts ≡ actions
   pub each : AreParts h 0 X (all_passes g.phases) parts
 
 -- the parts of each phase, from phase f on: one for each of its
@@ -74,7 +74,7 @@ ArePhaseParts code q f [] [] = Unit {0}
 ArePhaseParts code q f [] (parts ∷ more) = ⊥
 ArePhaseParts code q f (passes ∷ phases) [] = ⊥
 ArePhaseParts code q f (passes ∷ phases) (parts ∷ more) =
-    (length parts ≡ length passes) × (joined parts ≡ acts code f q) × ArePhaseParts code q (f + 1) phases more
+    (length parts ≡ length passes) × (concatenated parts ≡ acts code f q) × ArePhaseParts code q (f + 1) phases more
 
 abbrev pub in_a_row : List (List (List Action)) → List (List Action)
 in_a_row [] = []

@@ -4,10 +4,10 @@ use Rattle.std.specs.Prelude.{slice_index, slice_index_or, Option, Some, None}
 use Rattle.icode.specs.Plain.{PlainExpr, PlainOp, PlainBody, NoStmts, AndStmts, Loop, Do, Load, Store, Zero, Add}
 use Rattle.icode.specs.Plain.{MulConst, MulTable, Tile, Sum, NoParts, AndParts, Var, Product, Rem}
 use Rattle.icode.specs.declared.program.Array.{Array}
-use Rattle.kernel_gen.specs.Instructions.{op_of}
+use Rattle.kernel_gen.specs.KernelOps.{op_of}
 use Rattle.kernel_gen.specs.Kernel.{trees_kernel}
 use Rattle.kernel_gen.specs.Making.{Made}
-use Rattle.kernel_gen.specs.declared.straight.Instruction.{Instruction}
+use Rattle.kernel_gen.specs.declared.straight.KernelOp.{KernelOp}
 use Rattle.operators.specs.Sum.{list_below}
 use Rattle.code_gen.specs.PassCode.Expressions.{expr_of}
 use Rattle.operators.specs.declared.target.Target.{Target}
@@ -119,7 +119,7 @@ finish_body f step (Some d) scatters open_loops table target i from free =
     AndStmts (Do (product_op (one_factor d.factors) free from table (place_at f open_loops d.places i) step))
     (do_only (Store target (place_at f open_loops scatters i) free))
 
-abbrev pub straight_body : List Instruction → PlainBody
+abbrev pub straight_body : List KernelOp → PlainBody
 straight_body [] = NoStmts
 straight_body (i ∷ code) = AndStmts (Do (op_of i)) (straight_body code)
 

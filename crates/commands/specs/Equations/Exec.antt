@@ -3,7 +3,7 @@ use Rattle.std.specs.Prelude.{◌≡◌, ℕ, List}
 use Rattle.icode.specs.Plain.{PlainProgram}
 use Rattle.schedules.specs.Schedule.{Plan as Turns}
 use Rattle.runs.specs.Stream.{lines}
-use Rattle.commands.specs.ListingCommands.Listed.{loaded, result_of}
+use Rattle.commands.specs.Listings.Listed.{loaded, result_of}
 use Rattle.commands.specs.Input.Outcomes.{Outcomes}
 use Rattle.commands.specs.Equations.Front.{Answer, Work, part, answered, by_front}
 use Rattle.commands.specs.Equations.Works.{all, mapped, mapping}

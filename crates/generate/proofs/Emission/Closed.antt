@@ -31,8 +31,8 @@ use Rattle.sigma_spl.specs.Nest.{PlainNest, repeated, PlainFactors}
 use Rattle.sigma_spl.specs.Shared.Targets.{target_of}
 use Rattle.sigma_spl.specs.Sigma.{passes_in_order}
 use Rattle.sigma_spl.proofs.Listed.{merge_listed}
-use Rattle.smp_rewrite.specs.LayoutSteps.Layout.{layout_of}
-use Rattle.smp_rewrite.specs.LayoutSteps.Whole.{factor_by}
+use Rattle.smp_rewrite.specs.Layout.Tree.{layout_of}
+use Rattle.smp_rewrite.specs.Layout.Whole.{factor_by}
 use Rattle.tree_model.specs.Breakdown.{Breakdown}
 use Rattle.tree_model.specs.Chosen.{IsWholeTree}
 use Rattle.tree_model.specs.Cost.{is_plain}

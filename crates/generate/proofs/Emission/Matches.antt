@@ -9,7 +9,7 @@ use Rattle.sigma_lower.specs.TreeLoops.Merge.{PlainDiagonal, PlainPass, at_last,
 use Rattle.sigma_lower.specs.TreeLoops.Placed.{Fits, place_sum, AreCounts, all_simplified}
 use Rattle.sigma_lower.specs.TreeTerms.Wrapped.{inner_of}
 use Rattle.sigma_spl.specs.Work.{work_size, PlainWork, kernel, rows, horner, tile, copy, node_of, short}
-use Rattle.operators.specs.TensorPaths.Path.{Path, count_of, copies_of, size_under}
+use Rattle.operators.specs.Paths.Tensors.{Path, count_of, copies_of, size_under}
 use Rattle.generate.specs.Emission.Passes.{Pass, Site, entries, moved, none, twiddles}
 use Rattle.generate.specs.Emission.Places.{PlaceFunction, after, same}
 use Rattle.sigma_lower.specs.TreeLoops.Nests.{loop_of, taken_of}
@@ -21,7 +21,7 @@ use Rattle.sigma_spl.specs.Loops.{limits_in, multiplier_of, nest_of, one_nest, p
 use Rattle.sigma_spl.specs.Merge.{items_in, items_out}
 use Rattle.sigma_spl.specs.Nest.{PlainFactors, PlainNest}
 use Rattle.sigma_spl.specs.Limits.{AreSeveral}
-use Rattle.operators.proofs.TensorPaths.Under.{size_under-copies}
+use Rattle.operators.proofs.Paths.Under.{size_under-copies}
 use Rattle.generate.proofs.Emission.Nested.{plain_work, bounds, each, emitted_nest, multiplier_at, nest_at, nest_with}
 use Rattle.sigma_spl.specs.Nest as sums
 

@@ -23,9 +23,9 @@ use Rattle.generate.specs.Emission.Passes.{twiddles, values, work_size}
 use Rattle.code_gen.specs.PassCode.Statements.{do_only, finish_body, followed_by, in_a_row, loads_body}
 use Rattle.code_gen.specs.PassCode.Statements.{multiplier_number, nest_body, nested, pass_body, place_at, powers_number}
 use Rattle.code_gen.specs.PassCode.Statements.{straight_body, term_body, tables_of_work, work_body}
-use Rattle.kernel_gen.specs.Instructions.{op_of}
+use Rattle.kernel_gen.specs.KernelOps.{op_of}
 use Rattle.kernel_gen.specs.Kernel.{trees_kernel}
-use Rattle.kernel_gen.specs.declared.straight.Instruction.{Instruction}
+use Rattle.kernel_gen.specs.declared.straight.KernelOp.{KernelOp}
 use Rattle.operators.specs.declared.target.Target.{Target}
 use Rattle.sigma_spl.specs.Nest.{PlainNest}
 use Rattle.tree_model.specs.Trees.{trees_size}
@@ -162,7 +162,7 @@ in-a-row (suc n) f g same =
     ∙ ap body_of (sym (flat_map-append g (range_with_len 0 n) (n ∷ [])))
     ∙ ap (λ ks. body_of (flat_map g ks)) (sym (range-more n))
 
-pub straight-is : (code : List Instruction) → straight_body code ≡ body_of (map (λ i. Do (op_of i)) code)
+pub straight-is : (code : List KernelOp) → straight_body code ≡ body_of (map (λ i. Do (op_of i)) code)
 straight-is [] = refl
 straight-is (i ∷ code) = ap (AndStmts (Do (op_of i))) (straight-is code)
 

@@ -4,8 +4,8 @@ use Rattle.matrix_meaning.specs.declared.Kind.{Kind}
 use Rattle.matrix_meaning.specs.declared.Kind.TheVariants.{Dft}
 use Rattle.matrix_meaning.specs.declared.Request.{Request}
 use Rattle.index_fn.specs.Back.{unit_below}
-use Rattle.perm_algebra.proofs.Kept.{plain-joined, plain-scaled}
-use Rattle.perm_algebra.specs.Affine.{HasNoQuotient, Sum, constant, variable, remainder, quotient, joined, mods}
+use Rattle.perm_algebra.proofs.Kept.{plain-added, plain-scaled}
+use Rattle.perm_algebra.specs.Affine.{HasNoQuotient, Sum, constant, variable, remainder, quotient, added, mods}
 use Rattle.perm_algebra.specs.Affine.{reduced, scaled, top}
 use Rattle.sigma_spl.proofs.Walk.{chosen}
 use Rattle.tree_model.specs.Breakdown.{Breakdown, leaf, node, size_of}
@@ -45,22 +45,22 @@ plain-reduced cs n e h =
 plain-turn : (counts : List ℕ) (n : ℕ) → HasNoQuotient (turn_of counts n)
 plain-turn counts n = chosen HasNoQuotient (n == 1) (constant 0) _ (λ _. tt) tt
 
-both : (a b : ℕ) (x y : Sum) → HasNoQuotient x → HasNoQuotient y → HasNoQuotient (joined (scaled a x) (scaled b y))
-both a b x y h k = plain-joined (scaled a x) (scaled b y) (plain-scaled a x h) (plain-scaled b y k)
+both : (a b : ℕ) (x y : Sum) → HasNoQuotient x → HasNoQuotient y → HasNoQuotient (added (scaled a x) (scaled b y))
+both a b x y h k = plain-added (scaled a x) (scaled b y) (plain-scaled a x h) (plain-scaled b y k)
 
-one : (a : ℕ) (x y : Sum) → HasNoQuotient x → HasNoQuotient y → HasNoQuotient (joined (scaled a x) y)
-one a x y h k = plain-joined (scaled a x) y (plain-scaled a x h) k
+one : (a : ℕ) (x y : Sum) → HasNoQuotient x → HasNoQuotient y → HasNoQuotient (added (scaled a x) y)
+one a x y h k = plain-added (scaled a x) y (plain-scaled a x h) k
 
 -- ---- rules
 
 keeps-in : (rule : Rule) (r s : ℕ) (i : Sum) → HasNoQuotient i → KeepsPlain (right_in rule r s i)
-keeps-in Gt r s i h cs k p = plain-reduced cs (r * s) (joined (scaled s i) (scaled r k)) (both s r i k h p)
+keeps-in Gt r s i h cs k p = plain-reduced cs (r * s) (added (scaled s i) (scaled r k)) (both s r i k h p)
 keeps-in Ct r s i h cs k p = one r k i p h
 keeps-in _ r s i h cs k p = one s i k h p
 
 keeps-out : (rule : Rule) (r s : ℕ) (j : Sum) → HasNoQuotient j → KeepsPlain (left_out rule r s j)
 keeps-out Gt r s j h cs k p =
-    plain-reduced cs (r * s) (joined (scaled (unit_below r s r) k) (scaled (unit_below s r s) j))
+    plain-reduced cs (r * s) (added (scaled (unit_below r s r) k) (scaled (unit_below s r s) j))
     (both (unit_below r s r) (unit_below s r s) k j p h)
 keeps-out Ct r s j h cs k p = one s k j p h
 keeps-out _ r s j h cs k p = one s k j p h
@@ -134,7 +134,7 @@ module _ (c : Request) where
   keeps-packed : (r s : ℕ) → KeepsPlain (packed c r s)
   keeps-packed r s cs k p =
       let i = shared c r (lane_loops c) in
-      plain-lanes (joined (scaled s i) k) (one s i k (plain-shared r (lane_loops c)) p)
+      plain-lanes (added (scaled s i) k) (one s i k (plain-shared r (lane_loops c)) p)
 
   keeps-root : (rule : Rule) (r s : ℕ) → KeepsPlain (root_in rule c r s)
   keeps-root Ct r s = λ cs k p. one r k (in_lanes c (shared c r (lane_loops c))) p (plain-turns r)
@@ -153,14 +153,14 @@ module _ (c : Request) where
   keeps-along r s cs k p =
       let i = tile_row c r in
       let j = tile_column c r s in
-      plain-scaled c.lanes (joined (scaled s i) (joined (scaled c.lanes j) k))
-      (one s i (joined (scaled c.lanes j) k) (plain-row r) (one c.lanes j k (plain-column r s) p))
+      plain-scaled c.lanes (added (scaled s i) (added (scaled c.lanes j) k))
+      (one s i (added (scaled c.lanes j) k) (plain-row r) (one c.lanes j k (plain-column r s) p))
 
   keeps-across : (r s : ℕ) → KeepsPlain (across c r s)
   keeps-across r s cs k p =
       let i = tile_row c r in
       let j = tile_column c r s in
-      both s c.lanes (joined (scaled c.lanes i) k) j (one c.lanes i k (plain-row r) p) (plain-column r s)
+      both s c.lanes (added (scaled c.lanes i) k) j (one c.lanes i k (plain-row r) p) (plain-column r s)
 
   plain-right : (rule : Rule) (r s root : ℕ) → IsPlainSite (right_root rule c r s root)
   plain-right rule r s root =

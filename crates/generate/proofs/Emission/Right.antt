@@ -8,8 +8,8 @@ use Rattle.std.proofs.lemmas.List.{map-append}
 use Rattle.index_fn.specs.Mapping.{Mapping, Same}
 use Rattle.matrix_meaning.specs.declared.Request.{Request}
 use Rattle.operators.proofs.Lists.{place_below}
-use Rattle.perm_algebra.specs.Affine.{Sum, constant, scaled, joined}
-use Rattle.perm_algebra.proofs.Sizes.{joined-end, positive-product}
+use Rattle.perm_algebra.specs.Affine.{Sum, constant, scaled, added}
+use Rattle.perm_algebra.proofs.Sizes.{added-end, positive-product}
 use Rattle.sigma_lower.specs.TreeLoops.Merge.{PlainDiagonal, PlainPass, at_last, multiplied}
 use Rattle.sigma_lower.specs.TreeLoops.Nests.{loop_of}
 use Rattle.sigma_lower.specs.TreeLoops.Placed.{place_sum, AreCounts, all_simplified}
@@ -17,14 +17,14 @@ use Rattle.sigma_lower.specs.TreeTerms.Root.{tile_path, vectors_grouped, right_p
 use Rattle.sigma_lower.proofs.TreeLoops.InCopies.{AreCopies}
 use Rattle.sigma_lower.proofs.TreeLoops.LineMoves.{grouped-leads}
 use Rattle.sigma_lower.proofs.TreeLoops.LoopItems.{counts-from}
-use Rattle.sigma_lower.proofs.TreeLoops.Moved.{joined-assoc, scaled-joined, scaled-scaled}
+use Rattle.sigma_lower.proofs.TreeLoops.Moved.{added-assoc, scaled-added, scaled-scaled}
 use Rattle.sigma_lower.proofs.TreeLoops.PlaceSums.{all_simplified-append}
 use Rattle.sigma_lower.proofs.TreeLoops.RootShares.{AreShares, tiles_fill, tiles_product, tiles_small}
 use Rattle.sigma_lower.proofs.TreeLoops.TilePlaces.{tile_wide}
 use Rattle.sigma_lower.proofs.TreeLoops.WithinPlaces.{natural-copies}
 use Rattle.sigma_spl.specs.Loops.{nest_of, one_nest}
-use Rattle.operators.specs.declared.tensor_paths.Tensor.TheVariants.{Blocks}
-use Rattle.operators.specs.TensorPaths.Path.{Path, count_of, size_under}
+use Rattle.operators.specs.declared.paths.Tensor.TheVariants.{Blocks}
+use Rattle.operators.specs.Paths.Tensors.{Path, count_of, size_under}
 use Rattle.generate.specs.Emission.Passes.{Factors, Pass, entries, none, site_by, tile, twiddles, Site}
 use Rattle.generate.specs.Emission.Places.{PlaceFunction, inside, turn_of, same}
 use Rattle.generate.specs.Emission.Root.{across, along, processor_loops, tile_column, tile_row, turns, packed}
@@ -33,7 +33,7 @@ use Rattle.sigma_lower.proofs.TreeLoops.RightPlaces.{right_fills, right_wide}
 use Rattle.sigma_lower.proofs.TreeLoops.RootPasses.{tile_after, tile_before, turned_waiting}
 use Rattle.sigma_lower.proofs.TreeLoops.Shaped.{HasWorks, IsShapedWork, shaped_passes, shaped_works}
 use Rattle.sigma_lower.proofs.TreeLoops.TreePasses.{at_last-append, layout_passes}
-use Rattle.smp_rewrite.specs.LayoutSteps.Layout.{IsGoodLayout, Layout, layout_size}
+use Rattle.smp_rewrite.specs.Layout.Tree.{IsGoodLayout, Layout, layout_size}
 use Rattle.tree_model.specs.declared.tree.Rule.{Rule}
 use Rattle.tree_model.specs.declared.tree.Rule.TheVariants.{Ct}
 use Rattle.generate.proofs.Emission.Nested.{bounds, emitted_nest, nest_at, nest_with, emitted}
@@ -71,19 +71,19 @@ none-either false = refl
 -- ---- sums
 
 along-is : (v t n k : ℕ) (q g i : Sum) →
-    joined (scaled (n * (t * (v * v))) q)
-    (joined (scaled (t * (v * v)) g) (joined (scaled (v * v) i) (constant (k * v))))
-    ≡ scaled v (joined (scaled (v * t) (joined (scaled n q) g)) (joined (scaled v i) (constant k)))
+    added (scaled (n * (t * (v * v))) q)
+    (added (scaled (t * (v * v)) g) (added (scaled (v * v) i) (constant (k * v))))
+    ≡ scaled v (added (scaled (v * t) (added (scaled n q) g)) (added (scaled v i) (constant k)))
 along-is v t n k q g i =
     let s = v * t in
     sym
-    (ap (λ z. scaled v (joined z (joined (scaled v i) (constant k))))
-    (scaled-joined s (scaled n q) g ∙ ap (λ z. joined z (scaled s g)) (scaled-scaled s n q))
-    ∙ spread-out v (s * n) q (scaled s g) (joined (scaled v i) (constant k))
-    ∙ ap₂ (λ a z. joined (scaled a q) z) (many v t n)
-    (ap₂ joined (scaled-scaled v s g ∙ ap (λ a. scaled a g) (some v t))
-    (scaled-joined v (scaled v i) (constant k)
-    ∙ ap₂ (λ x a. joined x (constant a)) (scaled-scaled v v i) (mul_comm v k))))
+    (ap (λ z. scaled v (added z (added (scaled v i) (constant k))))
+    (scaled-added s (scaled n q) g ∙ ap (λ z. added z (scaled s g)) (scaled-scaled s n q))
+    ∙ spread-out v (s * n) q (scaled s g) (added (scaled v i) (constant k))
+    ∙ ap₂ (λ a z. added (scaled a q) z) (many v t n)
+    (ap₂ added (scaled-scaled v s g ∙ ap (λ a. scaled a g) (some v t))
+    (scaled-added v (scaled v i) (constant k)
+    ∙ ap₂ (λ x a. added x (constant a)) (scaled-scaled v v i) (mul_comm v k))))
   where
     many : (v t n : ℕ) → v * (v * t * n) ≡ n * (t * (v * v))
     many v t n = omega arith
@@ -92,25 +92,25 @@ along-is v t n k q g i =
     some v t = omega arith
 
 across-is : (v t n k : ℕ) (q g i : Sum) →
-    joined (scaled v (joined (scaled (n * (t * v)) q) (joined (scaled (t * v) g) (joined (scaled t (constant k)) i))))
+    added (scaled v (added (scaled (n * (t * v)) q) (added (scaled (t * v) g) (added (scaled t (constant k)) i))))
     (constant 0)
-    ≡ joined (scaled (v * t) (joined (scaled v (joined (scaled n q) g)) (constant k))) (scaled v i)
+    ≡ added (scaled (v * t) (added (scaled v (added (scaled n q) g)) (constant k))) (scaled v i)
 across-is v t n k q g i =
     let s = v * t in
-    joined-end _
-    ∙ scaled-joined v (scaled (n * (t * v)) q) (joined (scaled (t * v) g) (joined (constant (t * k)) i))
-    ∙ ap₂ joined (scaled-scaled v (n * (t * v)) q ∙ ap (λ a. scaled a q) (many v t n))
-    (scaled-joined v (scaled (t * v) g) (joined (constant (t * k)) i)
-    ∙ ap₂ joined (scaled-scaled v (t * v) g ∙ ap (λ a. scaled a g) (some v t))
-    (scaled-joined v (constant (t * k)) i ∙ ap (λ a. joined (constant a) (scaled v i)) (few v t k)))
+    added-end _
+    ∙ scaled-added v (scaled (n * (t * v)) q) (added (scaled (t * v) g) (added (constant (t * k)) i))
+    ∙ ap₂ added (scaled-scaled v (n * (t * v)) q ∙ ap (λ a. scaled a q) (many v t n))
+    (scaled-added v (scaled (t * v) g) (added (constant (t * k)) i)
+    ∙ ap₂ added (scaled-scaled v (t * v) g ∙ ap (λ a. scaled a g) (some v t))
+    (scaled-added v (constant (t * k)) i ∙ ap (λ a. added (constant a) (scaled v i)) (few v t k)))
     ∙ sym
-    (ap (λ z. joined (scaled s (joined z (constant k))) (scaled v i))
-    (scaled-joined v (scaled n q) g ∙ ap (λ z. joined z (scaled v g)) (scaled-scaled v n q))
-    ∙ ap (λ z. joined z (scaled v i)) (spread-out s (v * n) q (scaled v g) (constant k))
-    ∙ joined-assoc (scaled (s * (v * n)) q) (joined (scaled s (scaled v g)) (constant (s * k))) (scaled v i)
-    ∙ ap (joined (scaled (s * (v * n)) q))
-    (joined-assoc (scaled s (scaled v g)) (constant (s * k)) (scaled v i)
-    ∙ ap (λ z. joined z (joined (constant (s * k)) (scaled v i))) (scaled-scaled s v g)))
+    (ap (λ z. added (scaled s (added z (constant k))) (scaled v i))
+    (scaled-added v (scaled n q) g ∙ ap (λ z. added z (scaled v g)) (scaled-scaled v n q))
+    ∙ ap (λ z. added z (scaled v i)) (spread-out s (v * n) q (scaled v g) (constant k))
+    ∙ added-assoc (scaled (s * (v * n)) q) (added (scaled s (scaled v g)) (constant (s * k))) (scaled v i)
+    ∙ ap (added (scaled (s * (v * n)) q))
+    (added-assoc (scaled s (scaled v g)) (constant (s * k)) (scaled v i)
+    ∙ ap (λ z. added z (added (constant (s * k)) (scaled v i))) (scaled-scaled s v g)))
   where
     many : (v t n : ℕ) → v * (n * (t * v)) ≡ v * t * (v * n)
     many v t n = omega arith
@@ -169,18 +169,18 @@ module _ (c : Request) (r s : ℕ) (h : AreShares c.size c.procs c.lanes r s) wh
 
   -- where emission's rows and columns stand
   at-row : (f : ℕ → Sum → Sum → Sum) →
-      f s (tile_row c r) (tile_column c r s) ≡ f (v * t) (joined (scaled rows q) g) i
+      f s (tile_row c r) (tile_column c r s) ≡ f (v * t) (added (scaled rows q) g) i
   at-row f =
-      ap (λ n. f s (joined (scaled n q) (turn_of (processor_loops c) n)) (turn_of (inside (processor_loops c) n) t))
+      ap (λ n. f s (added (scaled n q) (turn_of (processor_loops c) n)) (turn_of (inside (processor_loops c) n) t))
       each-row
-      ∙ ap (λ n. f n (joined (scaled rows q) g) i) (sym wide)
+      ∙ ap (λ n. f n (added (scaled rows q) g) i) (sym wide)
 
   natural-along : (cs : ℕ → ℕ) (k : ℕ) →
       place_sum (tile_path p v r s) (v * v) 0 (constant (k * v)) ≡ along c r s cs (constant k)
   natural-along cs k =
       natural-turns three (v * v) (constant (k * v))
       ∙ along-is v t rows k q g i
-      ∙ sym (at-row (λ n x j. scaled v (joined (scaled n x) (joined (scaled v j) (constant k)))))
+      ∙ sym (at-row (λ n x j. scaled v (added (scaled n x) (added (scaled v j) (constant k)))))
 
   grouped-across : (cs : ℕ → ℕ) (k n : ℕ) → n ≡ t * v → k < v → AreCounts (tile_path p v r s) (v * v) 0 cs →
       all_simplified cs (vectors_grouped n p v r s ∷ []) (place_sum (tile_path p v r s) (v * v) 0 (constant (k * v)))
@@ -193,11 +193,11 @@ module _ (c : Request) (r s : ℕ) (h : AreShares c.size c.procs c.lanes r s) wh
       (omega (arith, below)) is tile_whole h.whole.high (tiles_small c.size p v r s h) in
       ap (all_simplified cs (vectors_grouped n p v r s ∷ [])) (natural-turns three (v * v) (constant (k * v)))
       ∙ lead.is
-      ∙ ap₂ (λ row column. joined
-      (scaled v (joined (scaled (rows * (t * v)) q) (joined (scaled (t * v) g) (joined (scaled t (constant row)) i))))
+      ∙ ap₂ (λ row column. added
+      (scaled v (added (scaled (rows * (t * v)) q) (added (scaled (t * v) g) (added (scaled t (constant row)) i))))
       (constant column)) (vector-row v k h.lanes) (vector-column v k)
       ∙ across-is v t rows k q g i
-      ∙ sym (at-row (λ n x j. joined (scaled n (joined (scaled v x) (constant k))) (scaled v j)))
+      ∙ sym (at-row (λ n x j. added (scaled n (added (scaled v x) (constant k))) (scaled v j)))
     where
       tile_whole : size_under three (v * v) ≡ c.size
       tile_whole = let all = tiles_product c.size p v r s h in omega (arith, all)

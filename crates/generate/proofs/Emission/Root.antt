@@ -5,15 +5,15 @@ use Rattle.std.proofs.Common.{List, [], ◌∷◌, ◌++◌, length, length-appe
 use Rattle.std.proofs.Common.{subst, mul_comm, Option, None, Some, option_map}
 use Rattle.std.proofs.Math.Nat.{mul-div_cancel_left}
 use Rattle.std.proofs.lemmas.List.{map-append}
-use Rattle.perm_algebra.specs.Affine.{Sum, scaled, joined, simplified}
+use Rattle.perm_algebra.specs.Affine.{Sum, scaled, added, simplified}
 use Rattle.sigma_lower.specs.TreeLoops.Placed.{place_sum, Fits, AreCounts, all_simplified}
 use Rattle.sigma_lower.proofs.TreeLoops.InCopies.{placed, AreCopies}
-use Rattle.sigma_lower.proofs.TreeLoops.Moved.{joined-assoc, placed-columns, scaled-joined, scaled-scaled}
+use Rattle.sigma_lower.proofs.TreeLoops.Moved.{added-assoc, placed-columns, scaled-added, scaled-scaled}
 use Rattle.sigma_lower.proofs.TreeLoops.WithinPlaces.{copies_from, natural-placed, natural-copies}
 use Rattle.smp_rewrite.proofs.Tensors.{within_all}
-use Rattle.operators.specs.declared.tensor_paths.Tensor.{Tensor}
-use Rattle.operators.specs.declared.tensor_paths.Tensor.TheVariants.{Columns, Blocks}
-use Rattle.operators.specs.TensorPaths.Path.{Path, count_of, size_under}
+use Rattle.operators.specs.declared.paths.Tensor.{Tensor}
+use Rattle.operators.specs.declared.paths.Tensor.TheVariants.{Columns, Blocks}
+use Rattle.operators.specs.Paths.Tensors.{Path, count_of, size_under}
 use Rattle.generate.specs.Emission.Places.{inside, turn_of, same}
 use Rattle.matrix_meaning.specs.declared.Request.{Request}
 use Rattle.sigma_lower.proofs.TreeLoops.LineMoves.{AreThree, turned-leads}
@@ -84,36 +84,36 @@ natural-turns ts n e = natural-placed ts n 0 e ∙ ap (λ us. placed ts n us e) 
 
 -- a factor over two parts and a rest
 pub spread-out : (c n : ℕ) (a b e : Sum) →
-    scaled c (joined (joined (scaled n a) b) e) ≡ joined (scaled (c * n) a) (joined (scaled c b) (scaled c e))
+    scaled c (added (added (scaled n a) b) e) ≡ added (scaled (c * n) a) (added (scaled c b) (scaled c e))
 spread-out c n a b e =
-    scaled-joined c (joined (scaled n a) b) e
-    ∙ ap (λ z. joined z (scaled c e))
-    (scaled-joined c (scaled n a) b ∙ ap (λ z. joined z (scaled c b)) (scaled-scaled c n a))
-    ∙ joined-assoc (scaled (c * n) a) (scaled c b) (scaled c e)
+    scaled-added c (added (scaled n a) b) e
+    ∙ ap (λ z. added z (scaled c e))
+    (scaled-added c (scaled n a) b ∙ ap (λ z. added z (scaled c b)) (scaled-scaled c n a))
+    ∙ added-assoc (scaled (c * n) a) (scaled c b) (scaled c e)
 
 -- (i*s + k)*v + l, where i is q*n + j
 pub packed-is : (v s n : ℕ) (q j e l : Sum) →
-    joined (scaled (n * s * v) q) (joined (scaled v (joined (scaled s j) e)) l)
-    ≡ joined (scaled v (joined (scaled s (joined (scaled n q) j)) e)) l
+    added (scaled (n * s * v) q) (added (scaled v (added (scaled s j) e)) l)
+    ≡ added (scaled v (added (scaled s (added (scaled n q) j)) e)) l
 packed-is v s n q j e l =
     sym
-    (ap (λ z. joined (scaled v (joined z e)) l)
-    (scaled-joined s (scaled n q) j ∙ ap (λ z. joined z (scaled s j)) (scaled-scaled s n q))
-    ∙ ap (λ z. joined z l) (spread-out v (s * n) q (scaled s j) e)
-    ∙ joined-assoc (scaled (v * (s * n)) q) (joined (scaled v (scaled s j)) (scaled v e)) l
-    ∙ ap₂ (λ c z. joined (scaled c q) (joined z l)) (omega arith) (sym (scaled-joined v (scaled s j) e)))
+    (ap (λ z. added (scaled v (added z e)) l)
+    (scaled-added s (scaled n q) j ∙ ap (λ z. added z (scaled s j)) (scaled-scaled s n q))
+    ∙ ap (λ z. added z l) (spread-out v (s * n) q (scaled s j) e)
+    ∙ added-assoc (scaled (v * (s * n)) q) (added (scaled v (scaled s j)) (scaled v e)) l
+    ∙ ap₂ (λ c z. added (scaled c q) (added z l)) (omega arith) (sym (scaled-added v (scaled s j) e)))
 
 -- r*e + (i*v + l), where i is q*n + j
 pub strided-is : (p v n : ℕ) (q j e l : Sum) →
     placed (Columns v ∷ Columns n ∷ Columns p ∷ []) 0 (l ∷ j ∷ q ∷ []) e
-    ≡ joined (scaled (p * (v * n)) e) (joined (scaled v (joined (scaled n q) j)) l)
+    ≡ added (scaled (p * (v * n)) e) (added (scaled v (added (scaled n q) j)) l)
 strided-is p v n q j e l =
     placed-columns v n (Columns p ∷ []) 0 l j (q ∷ []) e
-    ∙ placed-columns (v * n) p [] 0 (joined (scaled v j) l) q [] e
-    ∙ ap₂ (λ c z. joined (scaled c e) z) (omega arith)
-    (sym (joined-assoc (scaled (v * n) q) (scaled v j) l)
-    ∙ ap (λ z. joined z l)
-    (sym (scaled-joined v (scaled n q) j ∙ ap (λ z. joined z (scaled v j)) (scaled-scaled v n q))))
+    ∙ placed-columns (v * n) p [] 0 (added (scaled v j) l) q [] e
+    ∙ ap₂ (λ c z. added (scaled c e) z) (omega arith)
+    (sym (added-assoc (scaled (v * n) q) (scaled v j) l)
+    ∙ ap (λ z. added z l)
+    (sym (scaled-added v (scaled n q) j ∙ ap (λ z. added z (scaled v j)) (scaled-scaled v n q))))
 
 -- the turns of a processor and a lane
 pub turns-each : (p v k : ℕ) → 0 < v → 0 < p → (n : ℕ) → n ≡ p * (v * k) → n / v / p ≡ k
@@ -153,12 +153,12 @@ module _ (c : Request) (r s : ℕ) (h : AreShares c.size c.procs c.lanes r s) wh
   right-counts : turns c r (lane_loops c) ≡ map count_of (right_path p v r)
   right-counts = ap (inside (lane_loops c)) rows-each ∙ insides-are [] three
 
-  shared-is : shared c r (lane_loops c) ≡ joined (scaled rows q) j
-  shared-is = ap (λ n. joined (scaled n q) (turn_of (lane_loops c) n)) rows-each
+  shared-is : shared c r (lane_loops c) ≡ added (scaled rows q) j
+  shared-is = ap (λ n. added (scaled n q) (turn_of (lane_loops c) n)) rows-each
 
   pub packed-natural : (cs : ℕ → ℕ) (e : Sum) → packed c r s cs e ≡ place_sum (right_path p v r) s 0 e
   packed-natural cs e =
-      ap (λ i. joined (scaled v (joined (scaled s i) e)) l) shared-is
+      ap (λ i. added (scaled v (added (scaled s i) e)) l) shared-is
       ∙ sym (packed-is v s rows q j e l)
       ∙ sym (natural-turns three s e)
 
@@ -172,8 +172,8 @@ module _ (c : Request) (r s : ℕ) (h : AreShares c.size c.procs c.lanes r s) wh
       let copies : AreThree cs p v rows q l j = record { processor = named.0; lane = named.1.0; other = named.1.1.0 } in
       let lead = turned-leads p v rows s c.size q l j e cs copies fits right_whole h.whole.high
       (lines_small c.size p v r s h) (vectors_small c.size p v r s h) in
-      ap (λ i. joined (scaled r e) (joined (scaled v i) l)) shared-is
-      ∙ ap (λ n. joined (scaled n e) (joined (scaled v (joined (scaled rows q) j)) l)) h.rows
+      ap (λ i. added (scaled r e) (added (scaled v i) l)) shared-is
+      ∙ ap (λ n. added (scaled n e) (added (scaled v (added (scaled rows q) j)) l)) h.rows
       ∙ sym (strided-is p v rows q j e l)
       ∙ sym lead.is
       ∙ ap (all_simplified cs (turned_waiting p v r s)) (sym (natural-turns three s e))
@@ -220,7 +220,7 @@ module _ (c : Request) (r s : ℕ) (h : AreShares c.size c.procs c.lanes r s) wh
   left-turn = turn_of (lane_loops c) columns
 
   abbrev column : Sum
-  column = joined (scaled columns q) left-turn
+  column = added (scaled columns q) left-turn
 
   abbrev left-three : Path
   left-three = Blocks p ∷ Columns v ∷ Columns columns ∷ []
@@ -240,9 +240,9 @@ module _ (c : Request) (r s : ℕ) (h : AreShares c.size c.procs c.lanes r s) wh
   -- where emission's turns stand
   strided-placed : (cs : ℕ → ℕ) (y : Sum) → strided c s cs y ≡ placed whole r us y
   strided-placed cs y =
-      ap (λ n. joined (scaled s y) (joined (scaled v (joined (scaled n q) (turn_of (lane_loops c) n))) l))
+      ap (λ n. added (scaled s y) (added (scaled v (added (scaled n q) (turn_of (lane_loops c) n))) l))
       columns-each
-      ∙ ap (λ n. joined (scaled n y) (joined (scaled v column) l)) (sym (tiles_fill size p v r s h))
+      ∙ ap (λ n. added (scaled n y) (added (scaled v column) l)) (sym (tiles_fill size p v r s h))
       ∙ sym (placed-columns v (s / v) [] r l column [] y)
 
   -- the sums of the lane, and of the processor and the loop together

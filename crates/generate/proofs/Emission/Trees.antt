@@ -4,8 +4,8 @@ use Rattle.std.proofs.Common.{if◌then◌else◌, false, refl, sym, ap₂, leng
 use Rattle.std.proofs.lemmas.Bool.Decides.{nat_tests}
 use Rattle.std.proofs.lemmas.List.{map-append, append_assoc, length-map}
 use Rattle.index_fn.specs.Mapping.{Mapping, Strided, ThomasIn, ThomasBack}
-use Rattle.perm_algebra.specs.Affine.{Sum, constant, variable, scaled, joined, Divided, reduced, simplified}
-use Rattle.perm_algebra.proofs.Shape.{divided-joined, turned-joined}
+use Rattle.perm_algebra.specs.Affine.{Sum, constant, variable, scaled, added, Divided, reduced, simplified}
+use Rattle.perm_algebra.proofs.Shape.{divided-added, turned-added}
 use Rattle.sigma_lower.specs.TreeLoops.Placed.{Fits, place_sum, AreCounts, all_simplified}
 use Rattle.sigma_lower.specs.TreeTerms.Good.{AreCoprime}
 use Rattle.sigma_lower.specs.TreeTerms.Wrapped.{wrapped, unit_of, inner_of}
@@ -14,8 +14,8 @@ use Rattle.sigma_lower.proofs.TreeLoops.PartRules.{IsRuleIn, coprime_in, IsSize,
 use Rattle.sigma_lower.proofs.TreeLoops.PlaceSums.{tensor_sum, place_sum-push, counts-push, variable-fits}
 use Rattle.sigma_lower.proofs.TreeLoops.PlaceSums.{all_simplified-append}
 use Rattle.sigma_lower.proofs.TreeLoops.TreePasses.{rule_waiting, rule_passes, layout_passes}
-use Rattle.operators.specs.declared.tensor_paths.Tensor.TheVariants.{Blocks, Columns}
-use Rattle.operators.specs.TensorPaths.Path.{Path, count_of, size_under}
+use Rattle.operators.specs.declared.paths.Tensor.TheVariants.{Blocks, Columns}
+use Rattle.operators.specs.Paths.Tensors.{Path, count_of, size_under}
 use Rattle.tree_model.specs.declared.tree.Rule.{Rule}
 use Rattle.tree_model.specs.declared.tree.Rule.TheVariants.{Gt, Ct}
 use Rattle.generate.specs.Emission.Places.{left_out, right_in, PlaceFunction, after, blocks, columns, inside, same}
@@ -25,9 +25,9 @@ use Rattle.sigma_lower.specs.TreeLoops.Merge.{PlainPass, multiplied, new_pass, s
 use Rattle.sigma_lower.proofs.TreeLoops.InnerPlaces.{inner-place}
 use Rattle.sigma_lower.proofs.TreeLoops.Shaped.{HasWorks}
 use Rattle.sigma_spl.specs.Work.{PlainWork, work_size}
-use Rattle.smp_rewrite.specs.LayoutSteps.Layout.{Layout, work, by, layout_size, IsGoodLayout}
-use Rattle.operators.specs.declared.tensor_paths.Tensor.{Tensor}
-use Rattle.operators.proofs.TensorPaths.Under.{size_under-push}
+use Rattle.smp_rewrite.specs.Layout.Tree.{Layout, work, by, layout_size, IsGoodLayout}
+use Rattle.operators.specs.declared.paths.Tensor.{Tensor}
+use Rattle.operators.proofs.Paths.Under.{size_under-push}
 use Rattle.generate.specs.Emission.Passes.{Factors, Pass, Site, entries, left_site, moved, none, right_site, twiddles}
 use Rattle.generate.proofs.Emission.Layouts.{layout_emitted, named, named-plain}
 use Rattle.generate.proofs.Emission.Matches.{ArePasses, AreSame, IsAround, IsLast, IsSame, all-free, at_last-none}
@@ -54,15 +54,15 @@ thomas_in-leads : (r s d : ℕ) (e : Sum) (cs : ℕ → ℕ) → cs d ≡ r → 
     Leads cs (ThomasIn r s) (r * s) (tensor_sum (Blocks r) s d e) (right_in Gt r s (turn d) cs e)
 thomas_in-leads r s d e cs count two_r two_s high f =
     leads-by cs (ThomasIn r s) (r * s) (tensor_sum (Blocks r) s d e) _
-    (ap (λ (z : Divided). reduced cs (r * s) (joined (scaled s z.quot) (scaled r z.rem)))
-    (divided-joined s (turn d) e cs (omega arith) f.proper f.small))
+    (ap (λ (z : Divided). reduced cs (r * s) (added (scaled s z.quot) (scaled r z.rem)))
+    (divided-added s (turn d) e cs (omega arith) f.proper f.small))
     (thomas_in-one r s d e cs count two_r two_s high f)
 
 turns-leads : (r s d : ℕ) (e : Sum) (cs : ℕ → ℕ) → cs d ≡ r → 2 ≤ r → 2 ≤ s → Fits s e cs →
     Leads cs (Strided r s) (r * s) (tensor_sum (Blocks r) s d e) (right_in Ct r s (turn d) cs e)
 turns-leads r s d e cs count two_r two_s f =
     leads-by cs (Strided r s) (r * s) (tensor_sum (Blocks r) s d e) _
-    (turned-joined r s (turn d) e cs (omega arith) f.proper f.small) (turns-one r s d e cs count two_r two_s f)
+    (turned-added r s (turn d) e cs (omega arith) f.proper f.small) (turns-one r s d e cs count two_r two_s f)
 
 thomas_back-leads : (r s d : ℕ) (e : Sum) (cs : ℕ → ℕ) → AreCoprime r s → cs d ≡ s → 2 ≤ r → 2 ≤ s → Fits r e cs →
     Leads cs (ThomasBack r s (unit_of r s) (unit_of s r)) (r * s) (tensor_sum (Columns s) r d e)
@@ -70,8 +70,8 @@ thomas_back-leads : (r s d : ℕ) (e : Sum) (cs : ℕ → ℕ) → AreCoprime r 
 thomas_back-leads r s d e cs both count two_r two_s f =
     let fit = variable-fits s d cs count two_s in
     leads-by cs (ThomasBack r s (unit_of r s) (unit_of s r)) (r * s) (tensor_sum (Columns s) r d e) _
-    (ap (λ (z : Divided). reduced cs (r * s) (joined (scaled (unit_of r s) z.quot) (scaled (unit_of s r) z.rem)))
-    (divided-joined s e (turn d) cs (omega arith) fit.proper fit.small))
+    (ap (λ (z : Divided). reduced cs (r * s) (added (scaled (unit_of r s) z.quot) (scaled (unit_of s r) z.rem)))
+    (divided-added s e (turn d) cs (omega arith) fit.proper fit.small))
     (thomas_back-one r s d e cs both count two_r two_s f)
 
 -- ---- under a path

@@ -25,10 +25,10 @@ use Rattle.sigma_spl.specs.Loops.{one_nest, nest_of}
 use Rattle.sigma_spl.specs.Nest.{PlainNest, repeated}
 use Rattle.sigma_spl.specs.Shared.Targets.{is_alone, target_of}
 use Rattle.smp_rewrite.specs.Fits.{CanShareLayout, HasParts}
-use Rattle.smp_rewrite.specs.LayoutSteps.Layout.{IsGoodLayout, Layout, by, layout_of, layout_size, node_work, work}
-use Rattle.smp_rewrite.specs.LayoutSteps.Whole.{factor_by, whole_of}
-use Rattle.smp_rewrite.proofs.LayoutSteps.Layouts.{layouts_have_size}
-use Rattle.operators.specs.TensorPaths.Path.{count_of}
+use Rattle.smp_rewrite.specs.Layout.Tree.{IsGoodLayout, Layout, by, layout_of, layout_size, node_work, work}
+use Rattle.smp_rewrite.specs.Layout.Whole.{factor_by, whole_of}
+use Rattle.smp_rewrite.proofs.Layout.Layouts.{layouts_have_size}
+use Rattle.operators.specs.Paths.Tensors.{count_of}
 use Rattle.tree_model.proofs.PassLaws.{root_no_kernel}
 use Rattle.tree_model.specs.Breakdown.{Breakdown, leaf, node, size_of}
 use Rattle.tree_model.specs.Chosen.{IsWholeTree}
@@ -40,7 +40,7 @@ use Rattle.generate.specs.Emission.Passes.{Factors, Pass, moved, passes, entries
 use Rattle.generate.specs.Emission.Root.{left_root, right_root, root_phases, strided, tiles_after, tiles_before}
 use Rattle.generate.specs.Emission.Whole.{emission, whole_site, conv_emission}
 use Rattle.generate.specs.Letters.{program_for}
-use Rattle.loop_merge.specs.JoinedPasses.Joined.{joined}
+use Rattle.loop_merge.specs.JoinedPasses.InOnePhase.{joined}
 use Rattle.matrix_meaning.specs.Convolving.{IsConvRequest}
 use Rattle.code_gen.specs.PassCode.Program.{program_of}
 use Rattle.sigma_lower.proofs.TreeLoops.Wholes.{plain_phases}

@@ -2,14 +2,14 @@
 use Rattle.std.proofs.Common.{◌≡◌, ℕ, ◌^◌, ◌<◌, ◌≤◌, List, [], ◌∷◌, ◌++◌, refl, sym, ap, ◌∙◌, arith, subst, reverse}
 use Rattle.std.proofs.lemmas.List.{length-map, reverse-append}
 use Rattle.generate.specs.FormulaCode.Code.{IsCodeOf}
-use Rattle.generate.specs.FormulaCode.Joined.{phases_joined}
+use Rattle.generate.specs.FormulaCode.Coalesced.{phases_coalesced}
 use Rattle.generate.specs.FormulaCode.Letters.{program_as_it_stands}
 use Rattle.sigma_lower.specs.OnePhase.{formula_sigma}
 use Rattle.sigma_lower.specs.Terms.{term_of}
 use Rattle.generate.specs.FormulaPasses.Computes.{formula_merged}
 use Rattle.icode.specs.Plain.{PlainProgram}
-use Rattle.loop_merge.specs.JoinedCopies.Joined.{all_joined}
-use Rattle.loop_merge.proofs.JoinedCopies.Passes.{joined-order}
+use Rattle.loop_merge.specs.Coalescing.Copies.{all_coalesced}
+use Rattle.loop_merge.proofs.Coalescing.Passes.{coalesced-order}
 use Rattle.loop_merge.proofs.PlainPasses.{in_order_reversed}
 use Rattle.sigma_spl.specs.Shared.Machine.{plain_machine}
 use Rattle.code_gen.specs.PassCode.Contract.{Performs}
@@ -25,8 +25,8 @@ use Rattle.spl_ast.specs.Shape.{IsShaped}
 use Rattle.generate.specs.GoodPrograms.{FormulaProgramsAreCode}
 use Rattle.code_gen.proofs.WholePrograms.Performs.{programs_perform}
 use Rattle.code_gen.proofs.WholePrograms.ReadyPrograms.{ready_can_program}
-use Rattle.spl_ast.specs.BalancedSums.Halves.{balanced}
-use Rattle.spl_ast.proofs.BalancedSums.Sums.{same_matrix}
+use Rattle.spl_ast.specs.Halves.Balanced.{balanced}
+use Rattle.spl_ast.proofs.Halves.Sums.{same_matrix}
 use Rattle.generate.proofs.FormulaPasses.Programs.{formulas_are_ready, formulas_compute}
 use Rattle.generate.proofs.Performed.{among-leftovers, any-turns}
 use Rattle.generate.proofs.FormulaCode.Balanced.{balanced_alike, balanced_shaped}
@@ -39,10 +39,10 @@ use Rattle.generate.proofs.FormulaCode.Regrouped.{few_parts, same_code}
 abbrev in_phase : ℕ → List (List PlainNest) → PlainMerged
 in_phase n ps = record { size = n; procs = 1; lanes = 1; phases = ps ∷ [] }
 
-pub formula_joined : (m : ℕ) (f : Formula) → phases_joined (merged_of (formula_sigma m f)) ≡ formula_merged m f
-formula_joined m f =
+pub formula_coalesced : (m : ℕ) (f : Formula) → phases_coalesced (merged_of (formula_sigma m f)) ≡ formula_merged m f
+formula_coalesced m f =
     let ps = passes_of (size_of f) (term_of m [] f) in
-    ap (in_phase (size_of f)) (ap all_joined (in_order_reversed ps) ∙ sym (joined-order ps))
+    ap (in_phase (size_of f)) (ap all_coalesced (in_order_reversed ps) ∙ sym (coalesced-order ps))
 
 pub can_emit : (m : ℕ) (f : Formula) (g : PlainMerged) → 2 ≤ m → m < 2 ^ 62 → IsShaped f → parts_of f ≤ 65536 →
     g ≡ formula_merged m f → IsReady (plain_machine g.size m) g

@@ -14,9 +14,9 @@ use Rattle.sigma_lower.specs.Terms.{term_of}
 use Rattle.sigma_lower.proofs.Compiling.{formulas_compile}
 use Rattle.generate.specs.FormulaPasses.Laws.{FormulasAreReady}
 use Rattle.sigma_lower.proofs.FormulaPasses.Plain.{passes-plain}
-use Rattle.loop_merge.proofs.JoinedCopies.Passes.{joined_are_plain, joined_mean, joined_cost}
+use Rattle.loop_merge.proofs.Coalescing.Passes.{coalesced_are_plain, coalesced_mean, coalesced_cost}
 use Rattle.loop_merge.proofs.PlainPasses.{plain_are_ready, plain_on}
-use Rattle.loop_merge.specs.JoinedCopies.Joined.{all_joined}
+use Rattle.loop_merge.specs.Coalescing.Copies.{all_coalesced}
 use Rattle.sigma_spl.specs.Shared.Costs.{work_cost, pass_cost}
 use Rattle.spl_ast.specs.Formula.{size_of}
 use Rattle.generate.specs.FormulaPasses.Computes.{FormulasCompute, formula_merged}
@@ -26,8 +26,8 @@ use Rattle.generate.proofs.Performed as performed
 pub formulas_are_ready : FormulasAreReady
 formulas_are_ready m f two below shaped few =
     let ps = passes_of (size_of f) (term_of m [] f) in
-    plain_are_ready (size_of f) m (all_joined ps)
-    (joined_are_plain (size_of f) m ps (passes-plain m f two below shaped few))
+    plain_are_ready (size_of f) m (all_coalesced ps)
+    (coalesced_are_plain (size_of f) m ps (passes-plain m f two below shaped few))
 
 -- ---- the programs of a formula's merged passes compute it, in its operations
 
@@ -52,13 +52,13 @@ formulas_compute m f p two below shaped few performs =
       fits = performs.fits;
       results = λ x vector.
           performs.results x vector
-          ∙ plain_on (size_of f) m (all_joined merged) x
-          ∙ joined_mean m (size_of f) merged x
+          ∙ plain_on (size_of f) m (all_coalesced merged) x
+          ∙ coalesced_mean m (size_of f) merged x
           ∙ compiled.on x vector;
       cost = λ weight some.
           performed.alone 1 _ _ refl (counts.operations weight some)
-          ∙ ap (sum_by (pass_cost weight m)) (append-nil (in_order (all_joined merged)))
-          ∙ cost-order weight m (all_joined merged)
-          ∙ joined_cost weight (work_cost weight m) merged (λ d. refl)
+          ∙ ap (sum_by (pass_cost weight m)) (append-nil (in_order (all_coalesced merged)))
+          ∙ cost-order weight m (all_coalesced merged)
+          ∙ coalesced_cost weight (work_cost weight m) merged (λ d. refl)
           ∙ compiled.cost weight;
     }

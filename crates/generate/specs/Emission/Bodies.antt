@@ -6,7 +6,7 @@ use Rattle.icode.specs.Plain as code
 use Rattle.icode.specs.Plain.{PlainExpr, PlainPart, PlainStmt, Loop, Do, Load, Store, Zero, Add, MulConst, MulTable}
 use Rattle.icode.specs.Plain.{Tile, Proc, Var, Product, Rem, body_of, parts_of}
 use Rattle.icode.specs.declared.program.Array.{Array}
-use Rattle.kernel_gen.specs.Instructions.{op_of}
+use Rattle.kernel_gen.specs.KernelOps.{op_of}
 use Rattle.kernel_gen.specs.Kernel.{trees_kernel}
 use Rattle.matrix_meaning.specs.declared.Request.{Request}
 use Rattle.perm_algebra.specs.Affine.{Sum, constant, variable, remainder}

@@ -1,7 +1,7 @@
 -- Where passes load and store: places as sums of the variables of loops.
 use Rattle.std.specs.Prelude.{ℕ, ◌*◌, ◌==◌, if◌then◌else◌, List, [], ◌∷◌, ◌++◌, length}
 use Rattle.index_fn.specs.Back.{unit_below}
-use Rattle.perm_algebra.specs.Affine.{Sum, constant, variable, scaled, joined, reduced}
+use Rattle.perm_algebra.specs.Affine.{Sum, constant, variable, scaled, added, reduced}
 use Rattle.tree_model.specs.declared.tree.Rule.{Rule}
 use Rattle.tree_model.specs.declared.tree.Rule.TheVariants.{Gt, Ct}
 
@@ -30,22 +30,22 @@ after f g counts k = f counts (g counts k)
 
 -- i*s + k
 abbrev pub blocks : ℕ → Sum → PlaceFunction
-blocks s i counts k = joined (scaled s i) k
+blocks s i counts k = added (scaled s i) k
 
 -- k*s + j
 abbrev pub columns : ℕ → Sum → PlaceFunction
-columns s j counts k = joined (scaled s k) j
+columns s j counts k = added (scaled s k) j
 
 -- ---- the rules, on r*s places
 
 -- where the right part's turn i loads its place k
 abbrev pub right_in : Rule → ℕ → ℕ → Sum → PlaceFunction
-right_in Gt r s i counts k = reduced counts (r * s) (joined (scaled s i) (scaled r k))
+right_in Gt r s i counts k = reduced counts (r * s) (added (scaled s i) (scaled r k))
 right_in Ct r s i counts k = columns r i counts k
 right_in rule r s i counts k = blocks s i counts k
 
 -- where the left part's turn j stores its place k: by a gt at k times what is 1 modulo r and 0 modulo s, plus j times
 -- what is 0 and 1
 abbrev pub left_out : Rule → ℕ → ℕ → Sum → PlaceFunction
-left_out Gt r s j counts k = reduced counts (r * s) (joined (scaled (unit_below r s r) k) (scaled (unit_below s r s) j))
+left_out Gt r s j counts k = reduced counts (r * s) (added (scaled (unit_below r s r) k) (scaled (unit_below s r s) j))
 left_out rule r s j counts k = columns s j counts k

@@ -1,7 +1,7 @@
 -- The passes of a root that several processors or lanes share.
 use Rattle.std.specs.Prelude.{ℕ, ◌*◌, ◌/◌, ◌==◌, if◌then◌else◌, List, [], ◌∷◌, ◌++◌}
 use Rattle.matrix_meaning.specs.declared.Request.{Request}
-use Rattle.perm_algebra.specs.Affine.{Sum, scaled, joined}
+use Rattle.perm_algebra.specs.Affine.{Sum, scaled, added}
 use Rattle.tree_model.specs.Breakdown.{Breakdown, leaf, node, size_of}
 use Rattle.tree_model.specs.Cost.{node_root}
 use Rattle.tree_model.specs.Whole.{left_of, right_of}
@@ -27,11 +27,11 @@ abbrev pub turns : Request → ℕ → List ℕ → List ℕ
 turns c n counts = inside counts (share c n)
 
 abbrev pub shared : Request → ℕ → List ℕ → Sum
-shared c n counts = joined (scaled (share c n) (turn_of [] c.procs)) (turn_of counts (share c n))
+shared c n counts = added (scaled (share c n) (turn_of [] c.procs)) (turn_of counts (share c n))
 
 -- a word of the vector number i: i*v + lane
 abbrev pub in_lanes : Request → Sum → Sum
-in_lanes c i = joined (scaled c.lanes i) (turn_of (processor_loops c) c.lanes)
+in_lanes c i = added (scaled c.lanes i) (turn_of (processor_loops c) c.lanes)
 
 -- ---- the right part: (i*s + k)*v + lane
 

@@ -1,6 +1,6 @@
 -- The program of a formula, statement by statement.
 use Rattle.std.specs.Prelude.{ℕ}
-use Rattle.spl_ast.specs.BalancedSums.Halves.{balanced}
+use Rattle.spl_ast.specs.Halves.Balanced.{balanced}
 use Rattle.generate.specs.FormulaPasses.Computes.{formula_merged}
 use Rattle.icode.specs.Plain.{PlainProgram}
 use Rattle.sigma_spl.specs.Shared.Machine.{plain_machine}

@@ -6,7 +6,7 @@ use Rattle.icode.specs.Actions.{PlainFits, plain_code}
 use Rattle.icode.specs.Limits.{IsWithinLimits}
 use Rattle.icode.specs.Machine.{results, weighted, whole_counts}
 use Rattle.icode.specs.Plain.{PlainProgram}
-use Rattle.loop_merge.specs.JoinedCopies.Joined.{all_joined}
+use Rattle.loop_merge.specs.Coalescing.Copies.{all_coalesced}
 use Rattle.sigma_spl.specs.Shared.Machine.{plain_machine}
 use Rattle.code_gen.specs.PassCode.Contract.{Performs}
 use Rattle.sigma_spl.specs.Good.{IsVector}
@@ -19,7 +19,7 @@ use Rattle.spl_ast.specs.Shape.{IsShaped}
 
 -- the merged passes of a formula modulo m, with copies that stand side by side as one loop, in one phase
 abbrev pub formula_merged : ℕ → Formula → PlainMerged
-formula_merged m f = plain_phase (size_of f) (all_joined (passes_of (size_of f) (term_of m [] f)))
+formula_merged m f = plain_phase (size_of f) (all_coalesced (passes_of (size_of f) (term_of m [] f)))
 
 -- The program stands within the limits and fits. Run with no turns but those that complete it, it leaves what the
 -- formula makes of each vector of residues, in exactly the formula's operations, whatever a product counts

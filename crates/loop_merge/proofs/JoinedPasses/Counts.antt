@@ -1,7 +1,7 @@
 -- Joined passes count what both parts do, and a product for each word between them.
 use Rattle.std.proofs.Common.{◌≡◌, ℕ, ◌+◌, List, [], ◌∷◌, ◌++◌, map, sym, ap, ◌∙◌, arith, subst, append-nil, All}
 use Rattle.std.proofs.lemmas.List.{map-append}
-use Rattle.loop_merge.specs.JoinedPasses.Joined.{joined}
+use Rattle.loop_merge.specs.JoinedPasses.InOnePhase.{joined}
 use Rattle.loop_merge.specs.JoinedPasses.Laws.{CountBoth}
 use Rattle.loop_merge.specs.MultipliedPasses.Multiplied.{multiplied_last}
 use Rattle.loop_merge.proofs.MultipliedPasses.Counts.{last-costs, last-loads, most-last}

@@ -1,7 +1,7 @@
 -- Joined passes do what their parts do one after another.
 use Rattle.std.proofs.Common.{◌≡◌, ℕ, List, sym, ap, ◌∙◌}
 use Rattle.std.specs.Prelude.{slice_index}
-use Rattle.loop_merge.specs.JoinedPasses.Joined.{joined}
+use Rattle.loop_merge.specs.JoinedPasses.InOnePhase.{joined}
 use Rattle.loop_merge.specs.JoinedPasses.Laws.{AreInTurn}
 use Rattle.loop_merge.specs.MultipliedPasses.Multiplied.{multiplied_last}
 use Rattle.loop_merge.proofs.MultipliedPasses.Means.{last-scaled, one-phase}

@@ -11,7 +11,7 @@ use Rattle.sigma_spl.specs.Merged.{PlainMerged}
 use Rattle.sigma_spl.specs.Nest.{PlainNest, values}
 use Rattle.sigma_spl.specs.Shared.Owners.{all_passes, most_actions}
 use Rattle.sigma_spl.specs.Shared.Ready.{IsReady, IsReadyPass, passes_tables}
-use Rattle.loop_merge.specs.JoinedPasses.Joined.{joined}
+use Rattle.loop_merge.specs.JoinedPasses.InOnePhase.{joined}
 use Rattle.loop_merge.specs.JoinedPasses.Laws.{CanJoin, IsReadyJoined}
 use Rattle.loop_merge.specs.MultipliedPasses.Multiplied.{multiplied_last, with_factors}
 use Rattle.loop_merge.proofs.AloneOwns.{shared-first}

@@ -5,7 +5,7 @@ use Rattle.std.specs.Prelude.{◌&&◌}
 use Rattle.std.specs.List.{list_all}
 use Rattle.std.proofs.lemmas.List.Elements.{All-cons, All-head, All-nil, All-tail}
 use Rattle.loop_merge.specs.MultipliedPasses.Multiplied.{multiplied_last, with_factors}
-use Rattle.operators.specs.TensorPaths.Loop.{loop_at}
+use Rattle.operators.specs.Paths.Loop.{loop_at}
 use Rattle.operators.specs.declared.target.Target.{Target}
 use Rattle.sigma_spl.proofs.Walk.{and-left, and-right}
 use Rattle.sigma_spl.specs.Copies.{hits, loops_of}

@@ -12,7 +12,7 @@ use Rattle.sigma_spl.specs.Nest.{PlainFactors, spread, PlainMultiplier, PlainNes
 use Rattle.sigma_spl.specs.Shared.Ready.{diagonal_tables, nests_tables, passes_tables, work_tables}
 use Rattle.sigma_spl.specs.Term.{PlainTerm, same, gath, scat, diag, nest, move, product, beside}
 use Rattle.sigma_spl.proofs.Walk.{chosen}
-use Rattle.operators.specs.TensorPaths.Path.{Path}
+use Rattle.operators.specs.Paths.Tensors.{Path}
 use Rattle.sigma_spl.proofs.Tables.{tables-append}
 
 abbrev pub AreNarrow : ℕ → List (List PlainNest) → Type 0

@@ -18,7 +18,7 @@ use Rattle.sigma_spl.proofs.Natural.{ranged, at-second, place-with, natural-good
 use Rattle.sigma_spl.proofs.Nests.{length-map, names-simplified, sum-simplified, with_more, two_below}
 use Rattle.sigma_spl.proofs.Sides.{rest_of, rest-range, sound-renumbered, up, lift-more, names-up}
 use Rattle.perm_algebra.specs.Affine.{Sum, constant, variable, remainder, value, simplified}
-use Rattle.operators.specs.TensorPaths.Path.{Path, AreInRange, count_of, place, size_under}
+use Rattle.operators.specs.Paths.Tensors.{Path, AreInRange, count_of, place, size_under}
 use Rattle.tree_model.specs.Breakdown.{AllowsLeaf}
 use Rattle.sigma_lower.proofs.TreeSigmas.Ready.{names-all}
 use Rattle.operators.specs.Sum.{list_below}
@@ -28,7 +28,7 @@ use Rattle.sigma_spl.specs.Term.{PlainTerm, scat, diag, nest, move, product, bes
 use Rattle.sigma_spl.proofs.Keeps.{merged-reaches, nothing-stands, inner_positive, inner-formed}
 use Rattle.sigma_spl.proofs.Moved.{moved-good, table-good}
 use Rattle.sigma_spl.proofs.Walk.{chosen, AreMoves, moves-end, places-formed, Stands}
-use Rattle.operators.specs.declared.tensor_paths.Tensor.TheVariants.{Blocks, Columns}
+use Rattle.operators.specs.declared.paths.Tensor.TheVariants.{Blocks, Columns}
 
 -- ---- what is known of a nest of a formula's passes, which all that a pass takes keeps
 

@@ -23,7 +23,7 @@ use Rattle.sigma_spl.proofs.Walk.{and-left, and-right}
 use Rattle.perm_algebra.specs.Affine.{Sum, constant}
 use Rattle.perm_algebra.proofs.AffineLaws.{value-le-top}
 use Rattle.sigma_spl.specs.PlainPasses.{IsPlainNest, ArePlainPasses, IsPlainPass, in_order}
-use Rattle.operators.specs.TensorPaths.Path.{AreInRange, Path}
+use Rattle.operators.specs.Paths.Tensors.{AreInRange, Path}
 use Rattle.sigma_spl.proofs.Limited.{top-below}
 use Rattle.sigma_lower.specs.OnePhase.{formula_sigma}
 use Rattle.sigma_lower.specs.Operations.{operations}
@@ -43,7 +43,7 @@ use Rattle.spl_ast.specs.Formula.{Formula, Identity, Fourier, Hadamard, Twiddles
 use Rattle.spl_ast.specs.Formula.{TensorRight, DirectSum, Pending, size_of, parts_of}
 use Rattle.spl_ast.specs.Shape.{IsShaped}
 use Rattle.spl_ast.proofs.Vectors.{shaped_size, size_is_size}
-use Rattle.operators.specs.declared.tensor_paths.Tensor.TheVariants.{Blocks, Columns}
+use Rattle.operators.specs.declared.paths.Tensor.TheVariants.{Blocks, Columns}
 use Rattle.matrix_meaning.proofs.Requests.{power_below}
 use Rattle.sigma_lower.proofs.FormulaPasses.Costs.{leaf-root, operations-le, pass-loads-le}
 use Rattle.sigma_lower.proofs.FormulaPasses.Merging.{IsFormulaWork, IsAlike, HasDiagonal, AreMany, IsMade, AreMade}

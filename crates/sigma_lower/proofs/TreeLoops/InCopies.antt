@@ -1,7 +1,7 @@
 -- Places in copies that any sums name: a natural place is one where the loops' variables name the copy.
 use Rattle.sigma_lower.proofs.Words.{◌≡◌, ℕ, ◌+◌, ◌*◌, ◌<◌, ◌≤◌, arith, refl, sym, ap, ◌∙◌, List, [], ◌∷◌, subst}
-use Rattle.sigma_lower.proofs.Words.{le-mul_of_pos_right, Mapping, Sum, constant, variable, top, scaled, joined}
-use Rattle.sigma_lower.proofs.Words.{Divided, simplified, HasRoomFor, divided-joined, positive-product, wrapped, Fits}
+use Rattle.sigma_lower.proofs.Words.{le-mul_of_pos_right, Mapping, Sum, constant, variable, top, scaled, added}
+use Rattle.sigma_lower.proofs.Words.{Divided, simplified, HasRoomFor, divided-added, positive-product, wrapped, Fits}
 use Rattle.sigma_lower.proofs.Words.{place_sum, AreCounts, Blocks, Columns, Path, count_of, size_under, le-times, Same}
 use Rattle.sigma_lower.proofs.TreeLoops.PlaceRoom.{room-paired, scaled-top}
 use Rattle.sigma_lower.proofs.TreeLoops.PlaceSums.{parts-fit, variable-fits}
@@ -10,8 +10,8 @@ use Rattle.sigma_lower.proofs.TreeLoops.PlaceSums.{parts-fit, variable-fits}
 abbrev pub placed : Path → ℕ → List Sum → Sum → Sum
 placed [] n us e = e
 placed (t ∷ path) n [] e = e
-placed (Blocks c ∷ path) n (u ∷ us) e = joined (scaled (size_under path n) u) (placed path n us e)
-placed (Columns c ∷ path) n (u ∷ us) e = joined (scaled c (placed path n us e)) u
+placed (Blocks c ∷ path) n (u ∷ us) e = added (scaled (size_under path n) u) (placed path n us e)
+placed (Columns c ∷ path) n (u ∷ us) e = added (scaled c (placed path n us e)) u
 
 -- each of them runs below the count of its tensor
 abbrev pub AreCopies : Path → List Sum → (ℕ → ℕ) → Type 0
@@ -26,8 +26,8 @@ variables_of (t ∷ path) d = variable 1 d (constant 0) ∷ variables_of path (d
 
 pub place_sum-placed : (path : Path) (n d : ℕ) (e : Sum) → place_sum path n d e ≡ placed path n (variables_of path d) e
 place_sum-placed [] n d e = refl
-place_sum-placed (Blocks c ∷ path) n d e = ap (joined (scaled (size_under path n) (variable 1 d (constant 0)))) (place_sum-placed path n (d + 1) e)
-place_sum-placed (Columns c ∷ path) n d e = ap (λ g. joined (scaled c g) (variable 1 d (constant 0))) (place_sum-placed path n (d + 1) e)
+place_sum-placed (Blocks c ∷ path) n d e = ap (added (scaled (size_under path n) (variable 1 d (constant 0)))) (place_sum-placed path n (d + 1) e)
+place_sum-placed (Columns c ∷ path) n d e = ap (λ g. added (scaled c g) (variable 1 d (constant 0))) (place_sum-placed path n (d + 1) e)
 
 pub counts-copies : (path : Path) (n d : ℕ) (cs : ℕ → ℕ) → AreCounts path n d cs →
     AreCopies path (variables_of path d) cs
@@ -61,13 +61,13 @@ simplified-placed [] n us f e cs h fits = refl
 simplified-placed (t ∷ path) n [] f e cs h fits = absurd h
 simplified-placed (Blocks c ∷ path) n (u ∷ us) f e cs h fits =
     let inner = placed-fits path n us e cs h.1 fits in
-    ap (λ (z : Divided). joined (scaled (size_under path n) z.quot) (simplified cs (wrapped path n f) z.rem))
-    (divided-joined (size_under path n) u (placed path n us e) cs (copies-positive path n us cs h.1 (fits-positive n e cs fits)) inner.proper inner.small)
-    ∙ ap (joined (scaled (size_under path n) u)) (simplified-placed path n us f e cs h.1 fits)
+    ap (λ (z : Divided). added (scaled (size_under path n) z.quot) (simplified cs (wrapped path n f) z.rem))
+    (divided-added (size_under path n) u (placed path n us e) cs (copies-positive path n us cs h.1 (fits-positive n e cs fits)) inner.proper inner.small)
+    ∙ ap (added (scaled (size_under path n) u)) (simplified-placed path n us f e cs h.1 fits)
 simplified-placed (Columns c ∷ path) n (u ∷ us) f e cs h fits =
-    ap (λ (z : Divided). joined (scaled c (simplified cs (wrapped path n f) z.quot)) z.rem)
-    (divided-joined c (placed path n us e) u cs (omega (arith, h.0.small)) h.0.proper h.0.small)
-    ∙ ap (λ z. joined (scaled c z) u) (simplified-placed path n us f e cs h.1 fits)
+    ap (λ (z : Divided). added (scaled c (simplified cs (wrapped path n f) z.quot)) z.rem)
+    (divided-added c (placed path n us e) u cs (omega (arith, h.0.small)) h.0.proper h.0.small)
+    ∙ ap (λ z. added (scaled c z) u) (simplified-placed path n us f e cs h.1 fits)
 
 -- a function under tensors has room at a place under them, where it has room at the inner place
 pub room-placed : (path : Path) (n : ℕ) (us : List Sum) (f : Mapping) (e : Sum) (cs : ℕ → ℕ) → AreCopies path us cs →

@@ -1,8 +1,8 @@
 -- The item of its copy that stands at a natural place.
 use Rattle.sigma_lower.proofs.Words.{◌≡◌, ℕ, ◌+◌, ◌*◌, ◌≤◌, arith, refl, ap, ◌∙◌, [], ◌∷◌, le-mul_of_pos_right, Sum}
-use Rattle.sigma_lower.proofs.Words.{constant, variable, scaled, joined, Divided, simplified, HasRoomFor}
-use Rattle.sigma_lower.proofs.Words.{divided-joined, joined-end, scaled-one, inner_of, Fits, place_sum, AreCounts}
-use Rattle.sigma_lower.proofs.Words.{Blocks, Columns, Path, size_under, le-times, Always, joined-zero}
+use Rattle.sigma_lower.proofs.Words.{constant, variable, scaled, added, Divided, simplified, HasRoomFor}
+use Rattle.sigma_lower.proofs.Words.{divided-added, added-end, scaled-one, inner_of, Fits, place_sum, AreCounts}
+use Rattle.sigma_lower.proofs.Words.{Blocks, Columns, Path, size_under, le-times, Always, added-zero}
 use Rattle.sigma_lower.proofs.TreeLoops.PlaceRoom.{room-paired}
 use Rattle.sigma_lower.proofs.TreeLoops.PlaceSums.{place_sum-fits, size-positive, variable-fits}
 
@@ -12,15 +12,15 @@ pub inner-place : (path : Path) (n d : ℕ) (e : Sum) (cs : ℕ → ℕ) → Are
 inner-place [] n d e cs h fits = refl
 inner-place (Blocks c ∷ path) n d e cs h fits =
     let inside = place_sum-fits path n (d + 1) e cs h.2 fits in
-    ap (λ (z : Divided). joined (constant 0) (simplified cs (inner_of path n) z.rem))
-    (divided-joined (size_under path n) (variable 1 d (constant 0)) (place_sum path n (d + 1) e) cs (size-positive path n (d + 1) cs h.2) inside.proper inside.small)
-    ∙ joined-zero _
+    ap (λ (z : Divided). added (constant 0) (simplified cs (inner_of path n) z.rem))
+    (divided-added (size_under path n) (variable 1 d (constant 0)) (place_sum path n (d + 1) e) cs (size-positive path n (d + 1) cs h.2) inside.proper inside.small)
+    ∙ added-zero _
     ∙ inner-place path n (d + 1) e cs h.2 fits
 inner-place (Columns c ∷ path) n d e cs h fits =
     let v = variable-fits c d cs h.0 h.1 in
-    ap (λ (z : Divided). joined (scaled 1 (simplified cs (inner_of path n) z.quot)) (constant 0))
-    (divided-joined c (place_sum path n (d + 1) e) (variable 1 d (constant 0)) cs (omega (arith, h.1)) v.proper v.small)
-    ∙ joined-end _
+    ap (λ (z : Divided). added (scaled 1 (simplified cs (inner_of path n) z.quot)) (constant 0))
+    (divided-added c (place_sum path n (d + 1) e) (variable 1 d (constant 0)) cs (omega (arith, h.1)) v.proper v.small)
+    ∙ added-end _
     ∙ scaled-one _
     ∙ inner-place path n (d + 1) e cs h.2 fits
 

@@ -1,8 +1,8 @@
 -- The places of the left part of a shared root: those of the part alone, in the copies that processors, lanes and loops name.
 use Rattle.sigma_lower.proofs.Words.{◌≡◌, ℕ, ◌+◌, ◌*◌, ◌/◌, ◌<◌, ◌≤◌, arith, refl, sym, ap, ap₂, ◌∙◌, List, [], ◌∷◌}
 use Rattle.sigma_lower.proofs.Words.{◌++◌, length, if◌then◌else◌, subst, mul_comm, ◌==◌, map, Option, None, Some}
-use Rattle.sigma_lower.proofs.Words.{option_map, Mapping, Target, AreSeveral, Sum, constant, variable, scaled, joined}
-use Rattle.sigma_lower.proofs.Words.{Divided, simplified, HasRoomFor, divided-joined, joined-end, scaled-one, same_Some}
+use Rattle.sigma_lower.proofs.Words.{option_map, Mapping, Target, AreSeveral, Sum, constant, variable, scaled, added}
+use Rattle.sigma_lower.proofs.Words.{Divided, simplified, HasRoomFor, divided-added, added-end, scaled-one, same_Some}
 use Rattle.sigma_lower.proofs.Words.{PlainDiagonal, PlainPass, Fits, IsCarried, place_sum, AreCounts, all_simplified}
 use Rattle.sigma_lower.proofs.Words.{diagonal_places, IsLimitedPass, left_path, work_size, inner_of, Blocks, Columns}
 use Rattle.sigma_lower.proofs.Words.{Path, grown, size_under, Always}
@@ -31,10 +31,10 @@ pub place_sum-append : (path more : Path) (n d : ℕ) (e : Sum) →
     place_sum (path ++ more) n d e ≡ place_sum path (size_under more n) d (place_sum more n (d + length path) e)
 place_sum-append [] more n d e = ap (λ i. place_sum more n i e) (omega arith)
 place_sum-append (Blocks c ∷ path) more n d e =
-    ap₂ (λ size g. joined (scaled size (variable 1 d (constant 0))) g) (size_under-append path more n)
+    ap₂ (λ size g. added (scaled size (variable 1 d (constant 0))) g) (size_under-append path more n)
     (place_sum-append path more n (d + 1) e ∙ ap (λ i. place_sum path (size_under more n) (d + 1) (place_sum more n i e)) (omega arith))
 place_sum-append (Columns c ∷ path) more n d e =
-    ap (λ g. joined (scaled c g) (variable 1 d (constant 0))) (place_sum-append path more n (d + 1) e ∙ ap (λ i. place_sum path (size_under more n) (d + 1) (place_sum more n i e)) (omega arith))
+    ap (λ g. added (scaled c g) (variable 1 d (constant 0))) (place_sum-append path more n (d + 1) e ∙ ap (λ i. place_sum path (size_under more n) (d + 1) (place_sum more n i e)) (omega arith))
 
 pub counts-append : (path more : Path) (n d : ℕ) (cs : ℕ → ℕ) → AreCounts (path ++ more) n d cs →
     AreCounts path (size_under more n) d cs × AreCounts more n (d + length path) cs
@@ -86,7 +86,7 @@ module _ (size p v m s : ℕ) (h : AreShares size p v m s) where
   spread-by cs d q l j named places =
       let k : ℕ = s / p / v in
       let both : AreThree cs p v k q l j = record { processor = named.0; lane = named.1.0; other = named.1.1.0 } in
-      let column : Sum = joined (scaled k q) j in
+      let column : Sum = added (scaled k q) j in
       let fits : Fits (s / v) column cs =
       subst (λ i. Fits i column cs) (sym (tiles_are size p v m s h ∙ mul_comm k p))
       (parts-fit p k q j cs (columns_some size p v m s h) named.0 named.1.1.0) in
@@ -97,7 +97,7 @@ module _ (size p v m s : ℕ) (h : AreShares size p v m s) where
         dealt = λ i e is inside.
             leads-same cs size (if_dealt i p v m s) (place_sum (left_path p v s) m d e) _ _ (places e)
             (subst (LeadsTo cs size (if_dealt i p v m s) (placed three m (q ∷ l ∷ j ∷ []) e))
-            (ap (λ g. joined (scaled v g) l)
+            (ap (λ g. added (scaled v g) l)
             (placed-columns k p [] m j q [] e
             ∙ ap (λ c. placed (Columns c ∷ []) m (column ∷ []) e) (sym (tiles_are size p v m s h))))
             (dealt-leads p v k m size i q l j e cs both inside is left_whole h.whole.high
@@ -144,15 +144,15 @@ module _ (size p v m s : ℕ) (h : AreShares size p v m s) where
 
   -- the place in all copies, by the number of the copy
   record IsNumbered (cs : ℕ → ℕ) (lane column y : Sum) : Type 0 where
-    same : placed whole m (lane ∷ column ∷ []) y ≡ joined (scaled s y) (joined (scaled v column) lane)
-    fits : Fits s (joined (scaled v column) lane) cs
+    same : placed whole m (lane ∷ column ∷ []) y ≡ added (scaled s y) (added (scaled v column) lane)
+    fits : Fits s (added (scaled v column) lane) cs
 
   numbered : (cs : ℕ → ℕ) (lane column y : Sum) → Fits v lane cs → Fits (s / v) column cs → IsNumbered cs lane column y
   numbered cs lane column y low high =
       record {
         same = placed-columns v (s / v) [] m lane column [] y
-            ∙ ap (λ c. joined (scaled c y) (joined (scaled v column) lane)) (tiles_fill size p v m s h);
-        fits = subst (λ i. Fits i (joined (scaled v column) lane) cs) (mul_comm (s / v) v ∙ tiles_fill size p v m s h)
+            ∙ ap (λ c. added (scaled c y) (added (scaled v column) lane)) (tiles_fill size p v m s h);
+        fits = subst (λ i. Fits i (added (scaled v column) lane) cs) (mul_comm (s / v) v ∙ tiles_fill size p v m s h)
             (parts-fit (s / v) v column lane cs h.lanes high low);
       }
 
@@ -165,9 +165,9 @@ module _ (size p v m s : ℕ) (h : AreShares size p v m s) where
       let is = numbered cs lane column y low high in
       let some : 0 < s = omega (arith, h.right) in
       ap (simplified cs (inner_of (Columns s ∷ path) n)) is.same
-      ∙ ap (λ (d : Divided). joined (scaled 1 (simplified cs (inner_of path n) d.quot)) (constant 0))
-      (divided-joined s y (joined (scaled v column) lane) cs some is.fits.proper is.fits.small)
-      ∙ joined-end (scaled 1 (simplified cs (inner_of path n) y))
+      ∙ ap (λ (d : Divided). added (scaled 1 (simplified cs (inner_of path n) d.quot)) (constant 0))
+      (divided-added s y (added (scaled v column) lane) cs some is.fits.proper is.fits.small)
+      ∙ added-end (scaled 1 (simplified cs (inner_of path n) y))
       ∙ scaled-one (simplified cs (inner_of path n) y)
 
   room-whole : (cs : ℕ → ℕ) (sp : Spread cs 0) (path : Path) (n : ℕ) (y : Sum) → Fits m y cs → n ≤ 1048576 →
@@ -178,7 +178,7 @@ module _ (size p v m s : ℕ) (h : AreShares size p v m s) where
       let is = numbered cs sp.lane sp.column y sp.copies.0 sp.copies.1.0 in
       let high : s ≤ 1048576 = omega (arith, columns_high size p v m s h) in
       subst (HasRoomFor cs (inner_of (Columns s ∷ path) n)) (sym is.same)
-      (room-paired (inner_of path n) (Always 0) s 1 y (joined (scaled v sp.column) sp.lane) z (constant 0) cs
+      (room-paired (inner_of path n) (Always 0) s 1 y (added (scaled v sp.column) sp.lane) z (constant 0) cs
       (omega (arith, h.right)) (omega arith) is.fits.proper is.fits.small room tt refl refl made.proper
       (omega (arith, made.small)))
 

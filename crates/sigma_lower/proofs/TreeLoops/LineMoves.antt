@@ -2,10 +2,10 @@
 use Rattle.sigma_lower.proofs.Words.{◌≡◌, ℕ, ◌*◌, ◌/◌, ◌%◌, ◌<◌, ◌≤◌, Bool, true, false, arith, refl, sym, ap, ap₂, ◌∙◌}
 use Rattle.sigma_lower.proofs.Words.{List, [], ◌∷◌, ◌++◌, if◌then◌else◌, subst, mul_comm, mod-lt, div-lt_iff_lt-mul}
 use Rattle.sigma_lower.proofs.Words.{◌==◌, div-add-mod', Mapping, Strided, factor_positive, Sum, constant, scaled}
-use Rattle.sigma_lower.proofs.Words.{joined, simplified, HasRoomFor, positive-product, Fits, all_simplified, wrapped}
-use Rattle.sigma_lower.proofs.Words.{is-one, within_all, Blocks, Columns, Path, size_under, AreBlocks, turned-joined}
+use Rattle.sigma_lower.proofs.Words.{added, simplified, HasRoomFor, positive-product, Fits, all_simplified, wrapped}
+use Rattle.sigma_lower.proofs.Words.{is-one, within_all, Blocks, Columns, Path, size_under, AreBlocks, turned-added}
 use Rattle.sigma_lower.proofs.TreeLoops.InCopies.{placed, AreCopies, placed-fits}
-use Rattle.sigma_lower.proofs.TreeLoops.Moved.{joined-assoc, scaled-joined, scaled-scaled, placed-swap}
+use Rattle.sigma_lower.proofs.TreeLoops.Moved.{added-assoc, scaled-added, scaled-scaled, placed-swap}
 use Rattle.sigma_lower.proofs.TreeLoops.PlaceSums.{parts-fit}
 use Rattle.sigma_lower.proofs.TreeLoops.RuleRoom.{strided-room}
 use Rattle.sigma_lower.proofs.TreeLoops.Staying.{StaysIn, stays-join, all_simplified-join}
@@ -55,19 +55,19 @@ some-of n e cs f = omega (arith, f.small)
 -- at a block of copies it makes a column of them
 pub flipped : (ts : Path) (r s : ℕ) (us : List Sum) (u e : Sum) (cs : ℕ → ℕ) → AreCopies ts us cs → Fits r u cs →
     Fits s e cs →
-    simplified cs (wrapped (within_all ts []) (r * s) (Strided r s)) (placed ts (r * s) us (joined (scaled s u) e))
-    ≡ placed ts (r * s) us (joined (scaled r e) u)
+    simplified cs (wrapped (within_all ts []) (r * s) (Strided r s)) (placed ts (r * s) us (added (scaled s u) e))
+    ≡ placed ts (r * s) us (added (scaled r e) u)
 flipped ts r s us u e cs h f g =
-    simplified-within ts (r * s) us (Strided r s) (joined (scaled s u) e) cs h (parts-fit r s u e cs (some-of s e cs g) f g)
-    ∙ ap (placed ts (r * s) us) (turned-joined r s u e cs (some-of s e cs g) g.proper g.small)
+    simplified-within ts (r * s) us (Strided r s) (added (scaled s u) e) cs h (parts-fit r s u e cs (some-of s e cs g) f g)
+    ∙ ap (placed ts (r * s) us) (turned-added r s u e cs (some-of s e cs g) g.proper g.small)
 
 pub flipped-room : (ts : Path) (r s : ℕ) (us : List Sum) (u e : Sum) (cs : ℕ → ℕ) → AreCopies ts us cs → Fits r u cs →
     Fits s e cs → size_under ts (r * s) ≤ 1048576 → r * s ≤ 1048576 →
-    HasRoomFor cs (wrapped (within_all ts []) (r * s) (Strided r s)) (placed ts (r * s) us (joined (scaled s u) e))
+    HasRoomFor cs (wrapped (within_all ts []) (r * s) (Strided r s)) (placed ts (r * s) us (added (scaled s u) e))
 flipped-room ts r s us u e cs h f g high small =
-    let turned = turned-joined r s u e cs (some-of s e cs g) g.proper g.small in
-    let made : Fits (r * s) (joined (scaled r e) u) cs = subst (λ n. Fits n (joined (scaled r e) u) cs) (mul_comm s r) (parts-fit s r e u cs (some-of r u cs f) g f) in
-    room-within ts (r * s) us (Strided r s) (joined (scaled s u) e) cs h (parts-fit r s u e cs (some-of s e cs g) f g) (subst (λ z. Fits (r * s) z cs) (sym turned) made) high (strided-room r s u e cs small f g)
+    let turned = turned-added r s u e cs (some-of s e cs g) g.proper g.small in
+    let made : Fits (r * s) (added (scaled r e) u) cs = subst (λ n. Fits n (added (scaled r e) u) cs) (mul_comm s r) (parts-fit s r e u cs (some-of r u cs f) g f) in
+    room-within ts (r * s) us (Strided r s) (added (scaled s u) e) cs h (parts-fit r s u e cs (some-of s e cs g) f g) (subst (λ z. Fits (r * s) z cs) (sym turned) made) high (strided-room r s u e cs small f g)
 
 -- ---- lines between processors
 
@@ -79,14 +79,14 @@ pub record AreThree (cs : ℕ → ℕ) (p v k : ℕ) (q l j : Sum) : Type 0 wher
 
 dealt-swapped : (p v k m : ℕ) (q l j e : Sum) → placed (Blocks p ∷ Columns v ∷ Columns k ∷ []) m (q ∷ l ∷ j ∷ []) e
     ≡ placed (Columns v ∷ Columns k ∷ Blocks p ∷ []) m (l ∷ j ∷ q ∷ []) e
-dealt-swapped p v k m q l j e = placed-swap p v (Columns k ∷ []) m q l (j ∷ []) e ∙ ap (λ g. joined (scaled v g) l) (placed-swap p k [] m q j [] e)
+dealt-swapped p v k m q l j e = placed-swap p v (Columns k ∷ []) m q l (j ∷ []) e ∙ ap (λ g. added (scaled v g) l) (placed-swap p k [] m q j [] e)
 
 -- on one processor nothing is dealt
 dealt-one : (p v k m : ℕ) (q l j e : Sum) (cs : ℕ → ℕ) → p ≡ 1 → Fits p q cs →
     placed (Columns v ∷ Columns k ∷ Blocks p ∷ []) m (l ∷ j ∷ q ∷ []) e
     ≡ placed (Columns v ∷ Columns k ∷ Columns p ∷ []) m (l ∷ j ∷ q ∷ []) e
 dealt-one p v k m q l j e cs one f =
-    ap (λ g. joined (scaled v (joined (scaled k g) j)) l) (one-copy (Blocks p) [] m q [] e cs one f ∙ sym (one-copy (Columns p) [] m q [] e cs one f))
+    ap (λ g. added (scaled v (added (scaled k g) j)) l) (one-copy (Blocks p) [] m q [] e cs one f ∙ sym (one-copy (Columns p) [] m q [] e cs one f))
 
 pub dealt-leads : (p v k m n size : ℕ) (q l j e : Sum) (cs : ℕ → ℕ) → AreThree cs p v k q l j → Fits m e cs →
     size ≡ p * m → size_under (Blocks p ∷ Columns v ∷ Columns k ∷ []) m ≡ n → n ≤ 1048576 → p * m ≤ 1048576 →
@@ -127,7 +127,7 @@ turned-leads p v k s n q l j e cs three fits whole high lines rows =
     let around : size_under (Blocks p ∷ Columns v ∷ Columns k ∷ []) s ≡ n = omega (arith, whole) in
     leads-step cs n (wrapped (within_all (Blocks p ∷ Columns v ∷ []) []) (k * s) (Strided k s)) _ from from next _ refl at_from
     (flipped-room (Blocks p ∷ Columns v ∷ []) k s (q ∷ l ∷ []) j e cs outer three.other fits (omega (arith, whole, high)) rows)
-    (flipped (Blocks p ∷ Columns v ∷ []) k s (q ∷ l ∷ []) j e cs outer three.other fits ∙ ap (λ i. placed (Blocks p ∷ Columns v ∷ []) i (q ∷ l ∷ []) (joined (scaled k e) j)) (mul_comm k s))
+    (flipped (Blocks p ∷ Columns v ∷ []) k s (q ∷ l ∷ []) j e cs outer three.other fits ∙ ap (λ i. placed (Blocks p ∷ Columns v ∷ []) i (q ∷ l ∷ []) (added (scaled k e) j)) (mul_comm k s))
     (dealt-leads p v k s n (p * s) q l j e cs three fits refl around high lines)
 
 -- ---- vectors of a group, tile by tile
@@ -139,19 +139,19 @@ blocks-size (Columns b ∷ path) n c h = absurd h
 
 -- columns inside of blocks, as columns of them
 columns-outside : (path : Path) (n c : ℕ) (us : List Sum) (e w : Sum) → AreBlocks path →
-    placed path (n * c) us (joined (scaled c e) w) ≡ joined (scaled c (placed path n us e)) w
+    placed path (n * c) us (added (scaled c e) w) ≡ added (scaled c (placed path n us e)) w
 columns-outside (Blocks b ∷ path) n c (u ∷ us) e w h =
     let inner = placed path n us e in
     let size = size_under path n in
-    ap₂ (λ k g. joined (scaled k u) g) (blocks-size path n c h) (columns-outside path n c us e w h)
-    ∙ ap (λ g. joined g (joined (scaled c inner) w)) (sym (scaled-scaled c size u))
-    ∙ sym (joined-assoc (scaled c (scaled size u)) (scaled c inner) w)
-    ∙ ap (λ g. joined g w) (sym (scaled-joined c (scaled size u) inner))
+    ap₂ (λ k g. added (scaled k u) g) (blocks-size path n c h) (columns-outside path n c us e w h)
+    ∙ ap (λ g. added g (added (scaled c inner) w)) (sym (scaled-scaled c size u))
+    ∙ sym (added-assoc (scaled c (scaled size u)) (scaled c inner) w)
+    ∙ ap (λ g. added g w) (sym (scaled-added c (scaled size u) inner))
 columns-outside (Columns b ∷ path) n c us e w h = absurd h
 columns-outside _ n c _ e w h = refl
 
 -- an item of a tile is in a row and a column
-pub tile-item : (v k : ℕ) → constant k ≡ joined (scaled v (constant (k / v))) (constant (k % v))
+pub tile-item : (v k : ℕ) → constant k ≡ added (scaled v (constant (k / v))) (constant (k % v))
 tile-item v k = ap constant (omega (arith, div-add-mod' k v))
 
 pub number-fits : (n k : ℕ) (cs : ℕ → ℕ) → k < n → Fits n (constant k) cs
@@ -163,15 +163,15 @@ pub grouped-leads : (p v r t n size : ℕ) (q g i : Sum) (k : ℕ) (cs : ℕ →
     LeadsTo cs n (wrapped (within_all (Columns v ∷ Blocks p ∷ Blocks r ∷ []) []) size (Strided t v) ∷ [])
     (placed (Blocks p ∷ Blocks r ∷ Blocks t ∷ []) (v * v) (q ∷ g ∷ i ∷ []) (constant k))
     (placed (Columns v ∷ Blocks p ∷ Blocks r ∷ []) (t * v) (constant (k % v) ∷ q ∷ g ∷ [])
-    (joined (scaled t (constant (k / v))) i))
+    (added (scaled t (constant (k / v))) i))
 grouped-leads p v r t n size q g i k cs fq fg fi below sized whole high small =
     let three : Path = Blocks p ∷ Blocks r ∷ Blocks t ∷ [] in
     let outer : Path = Columns v ∷ Blocks p ∷ Blocks r ∷ [] in
     let row : Sum = constant (k / v) in
     let column : Sum = constant (k % v) in
     let from = placed three (v * v) (q ∷ g ∷ i ∷ []) (constant k) in
-    let mid = placed outer (t * v) (column ∷ q ∷ g ∷ []) (joined (scaled v i) row) in
-    let to = placed outer (t * v) (column ∷ q ∷ g ∷ []) (joined (scaled t row) i) in
+    let mid = placed outer (t * v) (column ∷ q ∷ g ∷ []) (added (scaled v i) row) in
+    let to = placed outer (t * v) (column ∷ q ∷ g ∷ []) (added (scaled t row) i) in
     let some : 0 < v = factor_positive v v k below in
     let in_row : Fits v row cs = number-fits v (k / v) cs ((div-lt_iff_lt-mul some).1 below) in
     let in_column : Fits v column cs = number-fits v (k % v) cs (mod-lt k some) in
@@ -180,8 +180,8 @@ grouped-leads p v r t n size q g i k cs fq fg fi below sized whole high small =
     let at_from : Fits n from cs = subst (λ m. Fits m from cs) whole (placed-fits three (v * v) (q ∷ g ∷ i ∷ []) (constant k) cs (fq, (fg, (fi, tt))) (number-fits (v * v) k cs below)) in
     let at_mid : Fits n mid cs = subst (λ z. Fits n z cs) same at_from in
     let inside : size_under outer (t * v) ≡ n = omega (arith, whole) in
-    let made : Fits (t * v) (joined (scaled t row) i) cs = subst (λ m. Fits m (joined (scaled t row) i) cs) (mul_comm v t) (parts-fit v t row i cs (some-of t i cs fi) in_row fi) in
-    let at_to : Fits n to cs = subst (λ m. Fits m to cs) inside (placed-fits outer (t * v) (column ∷ q ∷ g ∷ []) (joined (scaled t row) i) cs copies made) in
+    let made : Fits (t * v) (added (scaled t row) i) cs = subst (λ m. Fits m (added (scaled t row) i) cs) (mul_comm v t) (parts-fit v t row i cs (some-of t i cs fi) in_row fi) in
+    let at_to : Fits n to cs = subst (λ m. Fits m to cs) inside (placed-fits outer (t * v) (column ∷ q ∷ g ∷ []) (added (scaled t row) i) cs copies made) in
     subst (λ m. LeadsTo cs n (wrapped (within_all outer []) m (Strided t v) ∷ []) from to) (sym sized)
     (leads-step cs n (wrapped (within_all outer []) (t * v) (Strided t v)) [] from mid to to same at_mid
     (flipped-room outer t v (column ∷ q ∷ g ∷ []) i row cs copies fi in_row (omega (arith, inside, high)) small)

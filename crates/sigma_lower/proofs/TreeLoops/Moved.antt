@@ -1,31 +1,31 @@
 -- Sums put together in another order: tensors that trade places, two tensors of columns as one, and a tensor of one copy.
 use Rattle.sigma_lower.proofs.Words.{◌≡◌, ℕ, ◌-◌, ◌*◌, ◌≤◌, arith, sym, ap, ap₂, ◌∙◌, List, ◌∷◌, le-mul_of_pos_right}
-use Rattle.sigma_lower.proofs.Words.{Fits, Sum, constant, variable, remainder, quotient, scaled, joined, joined-end}
-use Rattle.sigma_lower.proofs.Words.{scaled-one, Blocks, Columns, Path, size_under, joined-zero}
+use Rattle.sigma_lower.proofs.Words.{Fits, Sum, constant, variable, remainder, quotient, scaled, added, added-end}
+use Rattle.sigma_lower.proofs.Words.{scaled-one, Blocks, Columns, Path, size_under, added-zero}
 use Rattle.sigma_lower.proofs.TreeLoops.InCopies.{placed}
 
 -- ---- the algebra of sums
 
-pub joined-assoc : (a b e : Sum) → joined (joined a b) e ≡ joined a (joined b e)
-joined-assoc (constant c) (constant d) (constant k) = ap constant (omega arith)
-joined-assoc (constant c) (constant d) (variable f v rest) = ap (variable f v) (joined-assoc (constant c) (constant d) rest)
-joined-assoc (constant c) (constant d) (remainder f of m rest) = ap (remainder f of m) (joined-assoc (constant c) (constant d) rest)
-joined-assoc (constant c) (constant d) (quotient f of m rest) = ap (quotient f of m) (joined-assoc (constant c) (constant d) rest)
-joined-assoc (constant c) (variable f v rest) e = ap (variable f v) (joined-assoc (constant c) rest e)
-joined-assoc (constant c) (remainder f of m rest) e = ap (remainder f of m) (joined-assoc (constant c) rest e)
-joined-assoc (constant c) (quotient f of m rest) e = ap (quotient f of m) (joined-assoc (constant c) rest e)
-joined-assoc (variable f v rest) b e = ap (variable f v) (joined-assoc rest b e)
-joined-assoc (remainder f of m rest) b e = ap (remainder f of m) (joined-assoc rest b e)
-joined-assoc (quotient f of m rest) b e = ap (quotient f of m) (joined-assoc rest b e)
+pub added-assoc : (a b e : Sum) → added (added a b) e ≡ added a (added b e)
+added-assoc (constant c) (constant d) (constant k) = ap constant (omega arith)
+added-assoc (constant c) (constant d) (variable f v rest) = ap (variable f v) (added-assoc (constant c) (constant d) rest)
+added-assoc (constant c) (constant d) (remainder f of m rest) = ap (remainder f of m) (added-assoc (constant c) (constant d) rest)
+added-assoc (constant c) (constant d) (quotient f of m rest) = ap (quotient f of m) (added-assoc (constant c) (constant d) rest)
+added-assoc (constant c) (variable f v rest) e = ap (variable f v) (added-assoc (constant c) rest e)
+added-assoc (constant c) (remainder f of m rest) e = ap (remainder f of m) (added-assoc (constant c) rest e)
+added-assoc (constant c) (quotient f of m rest) e = ap (quotient f of m) (added-assoc (constant c) rest e)
+added-assoc (variable f v rest) b e = ap (variable f v) (added-assoc rest b e)
+added-assoc (remainder f of m rest) b e = ap (remainder f of m) (added-assoc rest b e)
+added-assoc (quotient f of m rest) b e = ap (quotient f of m) (added-assoc rest b e)
 
-pub scaled-joined : (k : ℕ) (a e : Sum) → scaled k (joined a e) ≡ joined (scaled k a) (scaled k e)
-scaled-joined k (constant c) (constant d) = ap constant (omega arith)
-scaled-joined k (constant c) (variable f v rest) = ap (variable (k * f) v) (scaled-joined k (constant c) rest)
-scaled-joined k (constant c) (remainder f of m rest) = ap (remainder (k * f) of m) (scaled-joined k (constant c) rest)
-scaled-joined k (constant c) (quotient f of m rest) = ap (quotient (k * f) of m) (scaled-joined k (constant c) rest)
-scaled-joined k (variable f v rest) e = ap (variable (k * f) v) (scaled-joined k rest e)
-scaled-joined k (remainder f of m rest) e = ap (remainder (k * f) of m) (scaled-joined k rest e)
-scaled-joined k (quotient f of m rest) e = ap (quotient (k * f) of m) (scaled-joined k rest e)
+pub scaled-added : (k : ℕ) (a e : Sum) → scaled k (added a e) ≡ added (scaled k a) (scaled k e)
+scaled-added k (constant c) (constant d) = ap constant (omega arith)
+scaled-added k (constant c) (variable f v rest) = ap (variable (k * f) v) (scaled-added k (constant c) rest)
+scaled-added k (constant c) (remainder f of m rest) = ap (remainder (k * f) of m) (scaled-added k (constant c) rest)
+scaled-added k (constant c) (quotient f of m rest) = ap (quotient (k * f) of m) (scaled-added k (constant c) rest)
+scaled-added k (variable f v rest) e = ap (variable (k * f) v) (scaled-added k rest e)
+scaled-added k (remainder f of m rest) e = ap (remainder (k * f) of m) (scaled-added k rest e)
+scaled-added k (quotient f of m rest) e = ap (quotient (k * f) of m) (scaled-added k rest e)
 
 pub scaled-scaled : (j k : ℕ) (e : Sum) → scaled j (scaled k e) ≡ scaled (j * k) e
 scaled-scaled j k (constant c) = ap constant (omega arith)
@@ -41,18 +41,18 @@ pub placed-swap : (b c : ℕ) (path : Path) (n : ℕ) (u w : Sum) (us : List Sum
 placed-swap b c path n u w us e =
     let inner = placed path n us e in
     let size = size_under path n in
-    ap (λ g. joined g (joined (scaled c inner) w)) (ap (λ k. scaled k u) (omega arith) ∙ sym (scaled-scaled c size u))
-    ∙ sym (joined-assoc (scaled c (scaled size u)) (scaled c inner) w)
-    ∙ ap (λ g. joined g w) (sym (scaled-joined c (scaled size u) inner))
+    ap (λ g. added g (added (scaled c inner) w)) (ap (λ k. scaled k u) (omega arith) ∙ sym (scaled-scaled c size u))
+    ∙ sym (added-assoc (scaled c (scaled size u)) (scaled c inner) w)
+    ∙ ap (λ g. added g w) (sym (scaled-added c (scaled size u) inner))
 
 -- columns of columns are columns
 pub placed-columns : (b c : ℕ) (path : Path) (n : ℕ) (u w : Sum) (us : List Sum) (e : Sum) →
     placed (Columns b ∷ Columns c ∷ path) n (u ∷ w ∷ us) e ≡ placed (Columns (b * c) ∷ path) n
-    (joined (scaled b w) u ∷ us) e
+    (added (scaled b w) u ∷ us) e
 placed-columns b c path n u w us e =
     let inner = placed path n us e in
-    ap (λ g. joined g u) (scaled-joined b (scaled c inner) w ∙ ap (λ g. joined g (scaled b w)) (scaled-scaled b c inner))
-    ∙ joined-assoc (scaled (b * c) inner) (scaled b w) u
+    ap (λ g. added g u) (scaled-added b (scaled c inner) w ∙ ap (λ g. added g (scaled b w)) (scaled-scaled b c inner))
+    ∙ added-assoc (scaled (b * c) inner) (scaled b w) u
 
 -- ---- one copy
 
@@ -65,8 +65,8 @@ fits-one (quotient k of m rest) cs f = absurd f.proper
 
 pub placed-one_block : (path : Path) (n : ℕ) (us : List Sum) (e : Sum) →
     placed (Blocks 1 ∷ path) n (constant 0 ∷ us) e ≡ placed path n us e
-placed-one_block path n us e = ap (λ k. joined (constant k) (placed path n us e)) (omega arith) ∙ joined-zero (placed path n us e)
+placed-one_block path n us e = ap (λ k. added (constant k) (placed path n us e)) (omega arith) ∙ added-zero (placed path n us e)
 
 pub placed-one_column : (path : Path) (n : ℕ) (us : List Sum) (e : Sum) →
     placed (Columns 1 ∷ path) n (constant 0 ∷ us) e ≡ placed path n us e
-placed-one_column path n us e = joined-end (scaled 1 (placed path n us e)) ∙ scaled-one (placed path n us e)
+placed-one_column path n us e = added-end (scaled 1 (placed path n us e)) ∙ scaled-one (placed path n us e)

@@ -2,7 +2,7 @@
 use Rattle.sigma_lower.proofs.Words.{◌≡◌, ℕ, ◌*◌, ◌≤◌, arith, sym, ◌∙◌, AreCoprime, Layout, by, layout_size}
 use Rattle.sigma_lower.proofs.Words.{IsGoodLayout, Path, size_under, copies_of, size_under-copies, Rule, Gt}
 use Rattle.sigma_lower.proofs.TreeTerms.Sizes.{part-le}
-use Rattle.smp_rewrite.specs.LayoutSteps.Layout.{CanPart}
+use Rattle.smp_rewrite.specs.Layout.Tree.{CanPart}
 
 -- the words, at least one, that a request may have
 pub record IsSize (size : ℕ) : Type 0 where

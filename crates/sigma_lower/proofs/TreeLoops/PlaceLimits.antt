@@ -1,14 +1,14 @@
 -- No place of a layout's passes is over a limit, nor is any on the way there.
 use Rattle.sigma_lower.proofs.Words.{◌≡◌, ℕ, ◌+◌, ◌*◌, ◌<◌, ◌≤◌, arith, refl, sym, ap, ◌∙◌, List, [], ◌∷◌, ◌++◌, length}
 use Rattle.sigma_lower.proofs.Words.{subst, mul_comm, Some, mul-le-mul_right, mul-le, Mapping, Strided, ThomasIn}
-use Rattle.sigma_lower.proofs.Words.{ThomasBack, Target, IsProper, Sum, constant, variable, top, scaled, joined}
-use Rattle.sigma_lower.proofs.Words.{Divided, simplified, top-scaled, top-joined, divided-joined, proper-joined}
+use Rattle.sigma_lower.proofs.Words.{ThomasBack, Target, IsProper, Sum, constant, variable, top, scaled, added}
+use Rattle.sigma_lower.proofs.Words.{Divided, simplified, top-scaled, top-added, divided-added, proper-added}
 use Rattle.sigma_lower.proofs.Words.{proper-scaled, none-some, same_Some, PlainDiagonal, PlainPass, new_pass, scattered}
 use Rattle.sigma_lower.proofs.Words.{multiplied, at_last, Fits, place_sum, AreCounts, all_simplified, IsLimitedPass}
 use Rattle.sigma_lower.proofs.Words.{HasRoomFor, PlainWork, work_size, Layout, work, by, layout_size, IsGoodLayout}
 use Rattle.sigma_lower.proofs.Words.{wrapped, inner_of, unit_of, Tensor, Blocks, Columns, Path, grown, size_under}
-use Rattle.sigma_lower.proofs.Words.{size_under-push, Rule, Gt, Ct, CanShareLayout, parts, reduced, turned-joined}
-use Rattle.sigma_lower.proofs.Words.{parts-scaled, parts-joined, IsTame}
+use Rattle.sigma_lower.proofs.Words.{size_under-push, Rule, Gt, Ct, CanShareLayout, parts, reduced, turned-added}
+use Rattle.sigma_lower.proofs.Words.{parts-scaled, parts-added, IsTame}
 use Rattle.sigma_lower.proofs.TreeLoops.InnerPlaces.{inner-place, room-inner}
 use Rattle.sigma_lower.proofs.TreeLoops.InCopies.{simplified-wrapped, room-wrapped}
 use Rattle.sigma_lower.proofs.TreeLoops.RuleRoom.{thomas_in-room, turns-room, thomas_back-room}
@@ -16,7 +16,7 @@ use Rattle.sigma_lower.proofs.TreeLoops.PlaceSums.{tensor_sum, place_sum-push, c
 use Rattle.sigma_lower.proofs.TreeLoops.PlaceSums.{tensor_sum-fits, place_sum-fits, all_simplified-append}
 use Rattle.sigma_lower.proofs.TreeLoops.PartRules.{IsSize, IsRuleIn, rule_in, coprime_in}
 use Rattle.sigma_lower.proofs.TreeLoops.Staying.{StaysIn, carried-push}
-use Rattle.sigma_lower.proofs.TreeLoops.TameSums.{tame-scaled, tame-joined, reduced-fits}
+use Rattle.sigma_lower.proofs.TreeLoops.TameSums.{tame-scaled, tame-added, reduced-fits}
 use Rattle.sigma_lower.proofs.TreeLoops.PassLists.{AllPasses, all-append, all-last, all-map, map-last}
 use Rattle.sigma_lower.proofs.TreeLoops.TreePasses.{back, rule_waiting, rule_passes, layout_passes}
 use Rattle.sigma_lower.proofs.TreeTerms.Lowering.{AreCoprime, unit_positive, unit_small}
@@ -37,12 +37,12 @@ low-product a t n high h g = mul-le a t 1048576 1048576 (omega arith) (omega ari
 -- two multiples, modulo n
 mixed : (cs : ℕ → ℕ) (n a b d size : ℕ) (e : Sum) → AreInArray n a b (cs d) size → 0 < a → 0 < b → Fits size e cs →
     2 ≤ cs d →
-    Fits n (reduced cs n (joined (scaled a (variable 1 d (constant 0))) (scaled b e))) cs
-    × Fits n (reduced cs n (joined (scaled b e) (scaled a (variable 1 d (constant 0))))) cs
+    Fits n (reduced cs n (added (scaled a (variable 1 d (constant 0))) (scaled b e))) cs
+    × Fits n (reduced cs n (added (scaled b e) (scaled a (variable 1 d (constant 0))))) cs
 mixed cs n a b d size e within p q f two =
     let v = variable 1 d (constant 0) in
-    let one = joined (scaled a v) (scaled b e) in
-    let other = joined (scaled b e) (scaled a v) in
+    let one = added (scaled a v) (scaled b e) in
+    let other = added (scaled b e) (scaled a v) in
     let proper_v : IsProper (scaled a v) cs = proper-scaled a v cs p (omega arith, two, tt) in
     let proper_e : IsProper (scaled b e) cs = proper-scaled b e cs q f.proper in
     let tame_e : IsTame cs (scaled b e) = tame-scaled cs b e f.tame in
@@ -53,10 +53,10 @@ mixed cs n a b d size e within p q f two =
     let left : a * top v cs ≤ 1099511627776 = low-product a (top v cs) n high within.first (omega (arith, count, two)) in
     let right : b * top e cs ≤ 1099511627776 = low-product b (top e cs) n high within.second (omega (arith, f.small, half)) in
     let tops : (top (scaled a v) cs ≡ a * top v cs) × (top (scaled b e) cs ≡ b * top e cs) = (top-scaled a v cs, top-scaled b e cs) in (
-      reduced-fits cs n size (parts e) one half some high (proper-joined (scaled a v) (scaled b e) cs proper_v proper_e) (tame-joined cs (scaled a v) (scaled b e) tt tame_e) (omega (arith, parts-joined (scaled a v) (scaled b e), parts-scaled b e)) f.few
-          (omega (arith, top-joined (scaled a v) (scaled b e) cs, tops.0, tops.1, left, right)),
-      reduced-fits cs n size (parts e) other half some high (proper-joined (scaled b e) (scaled a v) cs proper_e proper_v) (tame-joined cs (scaled b e) (scaled a v) tame_e tt) (omega (arith, parts-joined (scaled b e) (scaled a v), parts-scaled b e)) f.few
-          (omega (arith, top-joined (scaled b e) (scaled a v) cs, tops.0, tops.1, left, right)),
+      reduced-fits cs n size (parts e) one half some high (proper-added (scaled a v) (scaled b e) cs proper_v proper_e) (tame-added cs (scaled a v) (scaled b e) tt tame_e) (omega (arith, parts-added (scaled a v) (scaled b e), parts-scaled b e)) f.few
+          (omega (arith, top-added (scaled a v) (scaled b e) cs, tops.0, tops.1, left, right)),
+      reduced-fits cs n size (parts e) other half some high (proper-added (scaled b e) (scaled a v) cs proper_e proper_v) (tame-added cs (scaled b e) (scaled a v) tame_e tt) (omega (arith, parts-added (scaled b e) (scaled a v), parts-scaled b e)) f.few
+          (omega (arith, top-added (scaled b e) (scaled a v) cs, tops.0, tops.1, left, right)),
     )
 
 -- the numbers of a product of at least 2 by 2
@@ -75,8 +75,8 @@ pub thomas_in-one : (r s d : ℕ) (e : Sum) (cs : ℕ → ℕ) → cs d ≡ r �
 thomas_in-one r s d e cs count two_r two_s high f =
     let v = variable 1 d (constant 0) in
     let within = (product-array r s s r two_r two_s high (omega (arith, mul-le-mul_right s two_r)) (omega (arith, mul-le-mul_right r two_s, mul_comm s r))).0 in
-    let is : simplified cs (ThomasIn r s) (tensor_sum (Blocks r) s d e) ≡ reduced cs (r * s) (joined (scaled s v) (scaled r e)) =
-    ap (λ (z : Divided). reduced cs (r * s) (joined (scaled s z.quot) (scaled r z.rem))) (divided-joined s v e cs (omega arith) f.proper f.small) in
+    let is : simplified cs (ThomasIn r s) (tensor_sum (Blocks r) s d e) ≡ reduced cs (r * s) (added (scaled s v) (scaled r e)) =
+    ap (λ (z : Divided). reduced cs (r * s) (added (scaled s z.quot) (scaled r z.rem))) (divided-added s v e cs (omega arith) f.proper f.small) in
     subst (λ g. Fits (r * s) g cs) (sym is) (mixed cs (r * s) s r d s e (subst (λ z. AreInArray (r * s) s r z s) (sym count) within) (omega arith) (omega arith) f (omega arith)).0
 
 pub turns-one : (r s d : ℕ) (e : Sum) (cs : ℕ → ℕ) → cs d ≡ r → 2 ≤ r → 2 ≤ s → Fits s e cs →
@@ -84,9 +84,9 @@ pub turns-one : (r s d : ℕ) (e : Sum) (cs : ℕ → ℕ) → cs d ≡ r → 2 
 turns-one r s d e cs count two_r two_s f =
     let v = variable 1 d (constant 0) in
     let positive : 0 < r = omega arith in
-    let is : simplified cs (Strided r s) (tensor_sum (Blocks r) s d e) ≡ joined (scaled r e) v = turned-joined r s v e cs (omega arith) f.proper f.small in
-    let fit : Fits (s * r) (joined (scaled r e) v) cs = parts-fit s r e v cs positive f (variable-fits r d cs count two_r) in
-    subst (λ g. Fits (r * s) g cs) (sym is) (subst (λ n. Fits n (joined (scaled r e) v) cs) (mul_comm s r) fit)
+    let is : simplified cs (Strided r s) (tensor_sum (Blocks r) s d e) ≡ added (scaled r e) v = turned-added r s v e cs (omega arith) f.proper f.small in
+    let fit : Fits (s * r) (added (scaled r e) v) cs = parts-fit s r e v cs positive f (variable-fits r d cs count two_r) in
+    subst (λ g. Fits (r * s) g cs) (sym is) (subst (λ n. Fits n (added (scaled r e) v) cs) (mul_comm s r) fit)
 
 pub thomas_back-one : (r s d : ℕ) (e : Sum) (cs : ℕ → ℕ) → AreCoprime r s → cs d ≡ s → 2 ≤ r → 2 ≤ s → Fits r e cs →
     Fits (r * s) (simplified cs (ThomasBack r s (unit_of r s) (unit_of s r)) (tensor_sum (Columns s) r d e)) cs
@@ -96,8 +96,8 @@ thomas_back-one r s d e cs both count two_r two_s f =
     let units = unit_positive r s both two_r two_s in
     let bounds = unit_small r s both in
     let within = (product-array r s (unit_of s r) (unit_of r s) two_r two_s both.small (omega (arith, bounds.1)) (omega (arith, bounds.0))).1 in
-    let is : simplified cs (ThomasBack r s (unit_of r s) (unit_of s r)) (tensor_sum (Columns s) r d e) ≡ reduced cs (r * s) (joined (scaled (unit_of r s) e) (scaled (unit_of s r) v)) =
-    ap (λ (z : Divided). reduced cs (r * s) (joined (scaled (unit_of r s) z.quot) (scaled (unit_of s r) z.rem))) (divided-joined s e v cs (omega arith) fit.proper fit.small) in
+    let is : simplified cs (ThomasBack r s (unit_of r s) (unit_of s r)) (tensor_sum (Columns s) r d e) ≡ reduced cs (r * s) (added (scaled (unit_of r s) e) (scaled (unit_of s r) v)) =
+    ap (λ (z : Divided). reduced cs (r * s) (added (scaled (unit_of r s) z.quot) (scaled (unit_of s r) z.rem))) (divided-added s e v cs (omega arith) fit.proper fit.small) in
     subst (λ g. Fits (r * s) g cs) (sym is) (mixed cs (r * s) (unit_of s r) (unit_of r s) d r e (subst (λ z. AreInArray (r * s) (unit_of s r) (unit_of r s) z r) (sym count) within) units.1 units.0 f (omega arith)).1
 
 -- ---- gathers: from the pass outwards to a whole of a number of words

@@ -1,12 +1,12 @@
 -- Where scaled, joined and divided sums fit 64 bits.
 use Rattle.sigma_lower.proofs.Words.{chosen, ◌==◌, ℕ, ◌+◌, ◌-◌, ◌*◌, ◌/◌, ◌%◌, ◌^◌, ◌<◌, ◌≤◌, arith, sym, ◌∙◌, subst}
 use Rattle.sigma_lower.proofs.Words.{le-mul_of_pos_right, mul-le-mul_right, IsProper, Sum, constant, variable}
-use Rattle.sigma_lower.proofs.Words.{remainder, quotient, top, scaled, joined, mods, ◌≡◌, CanJoin, HasRoomFor, Mapping}
-use Rattle.sigma_lower.proofs.Words.{simplified, Divided, divided-joined, top-scaled, Paired}
+use Rattle.sigma_lower.proofs.Words.{remainder, quotient, top, scaled, added, mods, ◌≡◌, CanAdd, HasRoomFor, Mapping}
+use Rattle.sigma_lower.proofs.Words.{simplified, Divided, divided-added, top-scaled, Paired}
 use Rattle.perm_algebra.specs.Room.{CanScale, constant_of, HasTop, CanDivide}
 use Rattle.std.proofs.Math.Nat.{mul-le-mul_left, mod-le}
 use Rattle.perm_algebra.specs.Affine.{peak}
-use Rattle.perm_algebra.proofs.Shape.{rest-joined, rest-small}
+use Rattle.perm_algebra.proofs.Shape.{rest-added, rest-small}
 
 pub has_top : (e : Sum) (cs : ℕ → ℕ) → IsProper e cs → top e cs < 2 ^ 64 → HasTop cs e
 has_top (constant c) cs h below = tt
@@ -29,31 +29,31 @@ constant-le-top (quotient f of m rest) cs = omega (arith, constant-le-top rest c
 pub can_scale : (k : ℕ) (e : Sum) (cs : ℕ → ℕ) → IsProper e cs → k * top e cs < 2 ^ 64 → CanScale k e
 can_scale k e cs h below = omega (arith, mul-le-mul_left k (peak-le-top e cs h))
 
-pub can_join : (a e : Sum) (cs : ℕ → ℕ) → top a cs + top e cs < 2 ^ 64 → CanJoin a e
-can_join a e cs below = omega (arith, constant-le-top a cs, constant-le-top e cs)
+pub can_add : (a e : Sum) (cs : ℕ → ℕ) → top a cs + top e cs < 2 ^ 64 → CanAdd a e
+can_add a e cs below = omega (arith, constant-le-top a cs, constant-le-top e cs)
 
 -- what is divided at a multiple of s and a small rest is the rest
 pub can_divide : (s : ℕ) (a e : Sum) (cs : ℕ → ℕ) → 0 < s → s ≤ 2 ^ 64 → IsProper e cs → top e cs < s →
-    CanDivide cs s (joined (scaled s a) e)
-can_divide s a e cs positive high h small = subst (HasTop cs) (sym (rest-joined s a e positive ∙ rest-small s e cs h small)) (has_top e cs h (omega arith))
+    CanDivide cs s (added (scaled s a) e)
+can_divide s a e cs positive high h small = subst (HasTop cs) (sym (rest-added s a e positive ∙ rest-small s e cs h small)) (has_top e cs h (omega arith))
 
 -- a pair of functions at a multiple of s and a small rest, which they lead to these sums
 pub room-paired : (f g : Mapping) (s k : ℕ) (a e x y : Sum) (cs : ℕ → ℕ) → 0 < s → s ≤ 2 ^ 64 → IsProper e cs →
     top e cs < s → HasRoomFor cs f a → HasRoomFor cs g e → simplified cs f a ≡ x → simplified cs g e ≡ y →
-    IsProper x cs → k * top x cs + top y cs < 2 ^ 64 → HasRoomFor cs (Paired f k g s) (joined (scaled s a) e)
+    IsProper x cs → k * top x cs + top y cs < 2 ^ 64 → HasRoomFor cs (Paired f k g s) (added (scaled s a) e)
 room-paired f g s k a e x y cs some high proper small on_left on_right left right count below =
     let scale : CanScale k x = can_scale k x cs count (omega arith) in
-    let join : CanJoin (scaled k x) y = can_join (scaled k x) y cs (omega (arith, top-scaled k x cs)) in
+    let join : CanAdd (scaled k x) y = can_add (scaled k x) y cs (omega (arith, top-scaled k x cs)) in
     subst
     (λ (z : Divided).
-    CanDivide cs s (joined (scaled s a) e) × HasRoomFor cs f z.quot × HasRoomFor cs g z.rem
-    × CanScale k (simplified cs f z.quot) × CanJoin (scaled k (simplified cs f z.quot)) (simplified cs g z.rem))
-    (sym (divided-joined s a e cs some proper small)) (
+    CanDivide cs s (added (scaled s a) e) × HasRoomFor cs f z.quot × HasRoomFor cs g z.rem
+    × CanScale k (simplified cs f z.quot) × CanAdd (scaled k (simplified cs f z.quot)) (simplified cs g z.rem))
+    (sym (divided-added s a e cs some proper small)) (
       can_divide s a e cs some high proper small,
       on_left,
       on_right,
       subst (CanScale k) (sym left) scale,
-      subst (λ w. CanJoin (scaled k w) (simplified cs g e)) (sym left) (subst (CanJoin (scaled k x)) (sym right) join),
+      subst (λ w. CanAdd (scaled k w) (simplified cs g e)) (sym left) (subst (CanAdd (scaled k x)) (sym right) join),
     )
 
 pub scaled-top : (a t b : ℕ) → t < b → a * t ≤ b * a

@@ -1,28 +1,28 @@
 -- Natural places as sums: one tensor more, and permutations at them.
 use Rattle.sigma_lower.proofs.Words.{◌≡◌, ℕ, ◌+◌, ◌*◌, ◌<◌, ◌≤◌, arith, refl, ap, ap₂, ◌∙◌, List, [], ◌∷◌, ◌++◌, length}
-use Rattle.sigma_lower.proofs.Words.{mul-le-mul, Mapping, Sum, constant, variable, top, scaled, joined, simplified}
-use Rattle.sigma_lower.proofs.Words.{top-scaled, top-joined, proper-joined, proper-scaled, positive-product, Fits}
+use Rattle.sigma_lower.proofs.Words.{mul-le-mul, Mapping, Sum, constant, variable, top, scaled, added, simplified}
+use Rattle.sigma_lower.proofs.Words.{top-scaled, top-added, proper-added, proper-scaled, positive-product, Fits}
 use Rattle.sigma_lower.proofs.Words.{place_sum, AreCounts, all_simplified, Tensor, Blocks, Columns, Path, count_of}
 use Rattle.sigma_lower.proofs.Words.{grown, size_under, size_under-push}
 use Rattle.std.proofs.lemmas.Nat.{mul-add-lt}
-use Rattle.sigma_lower.proofs.TreeLoops.TameSums.{tame-scaled, tame-joined, few-joined}
+use Rattle.sigma_lower.proofs.TreeLoops.TameSums.{tame-scaled, tame-added, few-added}
 
 -- the place under one tensor
 abbrev pub tensor_sum : Tensor → ℕ → ℕ → Sum → Sum
-tensor_sum (Blocks c) n d e = joined (scaled n (variable 1 d (constant 0))) e
-tensor_sum (Columns c) n d e = joined (scaled c e) (variable 1 d (constant 0))
+tensor_sum (Blocks c) n d e = added (scaled n (variable 1 d (constant 0))) e
+tensor_sum (Columns c) n d e = added (scaled c e) (variable 1 d (constant 0))
 
 pub place_sum-push : (path : Path) (t : Tensor) (n d : ℕ) (e : Sum) →
     place_sum (path ++ t ∷ []) n d e ≡ place_sum path (grown t n) d (tensor_sum t n (d + length path) e)
-place_sum-push [] (Blocks c) n d e = ap (λ i. joined (scaled n (variable 1 i (constant 0))) e) (omega arith)
-place_sum-push [] (Columns c) n d e = ap (λ i. joined (scaled c e) (variable 1 i (constant 0))) (omega arith)
+place_sum-push [] (Blocks c) n d e = ap (λ i. added (scaled n (variable 1 i (constant 0))) e) (omega arith)
+place_sum-push [] (Columns c) n d e = ap (λ i. added (scaled c e) (variable 1 i (constant 0))) (omega arith)
 place_sum-push (Blocks c ∷ path) t n d e =
     let deeper : d + 1 + length path ≡ d + length (Blocks c ∷ path) = omega arith in
-    ap₂ (λ size g. joined (scaled size (variable 1 d (constant 0))) g) (size_under-push path t n)
+    ap₂ (λ size g. added (scaled size (variable 1 d (constant 0))) g) (size_under-push path t n)
     (place_sum-push path t n (d + 1) e ∙ ap (λ i. place_sum path (grown t n) (d + 1) (tensor_sum t n i e)) deeper)
 place_sum-push (Columns c ∷ path) t n d e =
     let deeper : d + 1 + length path ≡ d + length (Columns c ∷ path) = omega arith in
-    ap (λ g. joined (scaled c g) (variable 1 d (constant 0)))
+    ap (λ g. added (scaled c g) (variable 1 d (constant 0)))
     (place_sum-push path t n (d + 1) e ∙ ap (λ i. place_sum path (grown t n) (d + 1) (tensor_sum t n i e)) deeper)
 
 -- the counts of a longer path
@@ -55,16 +55,16 @@ variable-fits c d cs e h = record { proper = (omega arith, omega arith, tt); sma
 
 -- a multiple and a rest
 pub parts-fit : (r s : ℕ) (a e : Sum) (cs : ℕ → ℕ) → 0 < s → Fits r a cs → Fits s e cs →
-    Fits (r * s) (joined (scaled s a) e) cs
+    Fits (r * s) (added (scaled s a) e) cs
 parts-fit r s a e cs h f g =
     record {
-      proper = proper-joined (scaled s a) e cs (proper-scaled s a cs h f.proper) g.proper;
+      proper = proper-added (scaled s a) e cs (proper-scaled s a cs h f.proper) g.proper;
       small =
-          let e1 = top-joined (scaled s a) e cs in
+          let e1 = top-added (scaled s a) e cs in
           let e2 = top-scaled s a cs in
           let bound = mul-add-lt (top a cs) s (top e cs) r f.small g.small in omega arith;
-      tame = tame-joined cs (scaled s a) e (tame-scaled cs s a f.tame) g.tame;
-      few = few-joined r s a e f.few g.few;
+      tame = tame-added cs (scaled s a) e (tame-scaled cs s a f.tame) g.tame;
+      few = few-added r s a e f.few g.few;
     }
 
 pub tensor_sum-fits : (t : Tensor) (n d : ℕ) (e : Sum) (cs : ℕ → ℕ) → cs d ≡ count_of t → 2 ≤ count_of t → 0 < n →

@@ -1,23 +1,23 @@
 -- The permutations of a rule have room at the places under its tensor.
 use Rattle.sigma_lower.proofs.Words.{◌≡◌, ℕ, ◌+◌, ◌*◌, ◌^◌, ◌<◌, ◌≤◌, arith, sym, subst, mul-le-mul_left}
 use Rattle.sigma_lower.proofs.Words.{le-mul_of_pos_right, mul-le, Strided, ThomasIn, ThomasBack, IsProper, Sum}
-use Rattle.sigma_lower.proofs.Words.{constant, variable, top, scaled, joined, Divided, mods, CanJoin, HasRoomFor}
-use Rattle.sigma_lower.proofs.Words.{top-scaled, top-joined, divided-joined, proper-joined, proper-scaled, le-times}
+use Rattle.sigma_lower.proofs.Words.{constant, variable, top, scaled, added, Divided, mods, CanAdd, HasRoomFor}
+use Rattle.sigma_lower.proofs.Words.{top-scaled, top-added, divided-added, proper-added, proper-scaled, le-times}
 use Rattle.sigma_lower.proofs.Words.{Fits, Blocks, Columns, mods-proper}
 use Rattle.perm_algebra.specs.Room.{CanScale, CanMix}
-use Rattle.sigma_lower.proofs.TreeLoops.PlaceRoom.{has_top, top-mods, can_scale, can_join, can_divide}
+use Rattle.sigma_lower.proofs.TreeLoops.PlaceRoom.{has_top, top-mods, can_scale, can_add, can_divide}
 use Rattle.sigma_lower.proofs.TreeLoops.PlaceSums.{tensor_sum, variable-fits}
 
 -- two multiples whose greatest values sum below 2^64
 can_mix : (n a b : ℕ) (e g : Sum) (cs : ℕ → ℕ) → 0 < a → 0 < b → IsProper e cs → IsProper g cs →
     a * top e cs + b * top g cs < 2 ^ 64 → CanMix cs n a b e g
 can_mix n a b e g cs p q h k below =
-    let both = joined (scaled a e) (scaled b g) in
-    let proper : IsProper both cs = proper-joined (scaled a e) (scaled b g) cs (proper-scaled a e cs p h) (proper-scaled b g cs q k) in (
+    let both = added (scaled a e) (scaled b g) in
+    let proper : IsProper both cs = proper-added (scaled a e) (scaled b g) cs (proper-scaled a e cs p h) (proper-scaled b g cs q k) in (
       can_scale a e cs h (omega arith),
       can_scale b g cs k (omega arith),
-      can_join (scaled a e) (scaled b g) cs (omega (arith, top-scaled a e cs, top-scaled b g cs)),
-      has_top (mods n both) cs (mods-proper n both cs proper) (omega (arith, top-mods n both cs, top-joined (scaled a e) (scaled b g) cs, top-scaled a e cs, top-scaled b g cs)),
+      can_add (scaled a e) (scaled b g) cs (omega (arith, top-scaled a e cs, top-scaled b g cs)),
+      has_top (mods n both) cs (mods-proper n both cs proper) (omega (arith, top-mods n both cs, top-added (scaled a e) (scaled b g) cs, top-scaled a e cs, top-scaled b g cs)),
     )
 
 below-product : (a b t : ℕ) → t < b → a * t ≤ a * b
@@ -28,7 +28,7 @@ pub thomas_in-room : (r s d : ℕ) (e : Sum) (cs : ℕ → ℕ) → cs d ≡ r �
 thomas_in-room r s d e cs count two_r two_s small f =
     let v = variable 1 d (constant 0) in
     let fit = variable-fits r d cs count two_r in
-    let apart = divided-joined s v e cs (omega arith) f.proper f.small in
+    let apart = divided-added s v e cs (omega arith) f.proper f.small in
     let one : s * top v cs ≤ s * r = below-product s r (top v cs) fit.small in
     let other : r * top e cs ≤ r * s = below-product r s (top e cs) f.small in
     let size : s ≤ r * s = le-times r s (omega arith) in (
@@ -37,16 +37,16 @@ thomas_in-room r s d e cs count two_r two_s small f =
     )
 
 pub strided-room : (r s : ℕ) (u e : Sum) (cs : ℕ → ℕ) → r * s ≤ 1048576 → Fits r u cs → Fits s e cs →
-    HasRoomFor cs (Strided r s) (joined (scaled s u) e)
+    HasRoomFor cs (Strided r s) (added (scaled s u) e)
 strided-room r s u e cs small fit f =
     let some : 0 < s = omega (arith, f.small) in
-    let apart = divided-joined s u e cs some f.proper f.small in
+    let apart = divided-added s u e cs some f.proper f.small in
     let other : r * top e cs ≤ r * s = below-product r s (top e cs) f.small in
     let size : s ≤ r * s = le-times r s (omega (arith, fit.small)) in
     let rows : r ≤ r * s = le-mul_of_pos_right {m = s} r some in (
       can_divide s u e cs some (omega arith) f.proper f.small,
       subst (λ (z : Divided). CanScale r z.rem) (sym apart) (can_scale r e cs f.proper (omega arith)),
-      subst (λ (z : Divided). CanJoin (scaled r z.rem) z.quot) (sym apart) (can_join (scaled r e) u cs (omega (arith, top-scaled r e cs, fit.small))),
+      subst (λ (z : Divided). CanAdd (scaled r z.rem) z.quot) (sym apart) (can_add (scaled r e) u cs (omega (arith, top-scaled r e cs, fit.small))),
     )
 
 pub turns-room : (r s d : ℕ) (e : Sum) (cs : ℕ → ℕ) → cs d ≡ r → 2 ≤ r → 2 ≤ s → r * s ≤ 1048576 → Fits s e cs →
@@ -59,7 +59,7 @@ pub thomas_back-room : (r s u w d : ℕ) (e : Sum) (cs : ℕ → ℕ) → cs d �
 thomas_back-room r s u w d e cs count two_r two_s small pu bu pw bw f =
     let v = variable 1 d (constant 0) in
     let fit = variable-fits s d cs count two_s in
-    let apart = divided-joined s e v cs (omega arith) fit.proper fit.small in
+    let apart = divided-added s e v cs (omega arith) fit.proper fit.small in
     let size : s ≤ r * s = le-times r s (omega arith) in
     let rows : r ≤ r * s = le-mul_of_pos_right {m = s} r (omega arith) in
     let one : u * top e cs ≤ 1048576 * 1048576 = mul-le u (top e cs) 1048576 1048576 (omega arith) (omega (arith, f.small)) in

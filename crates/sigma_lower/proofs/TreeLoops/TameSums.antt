@@ -2,8 +2,8 @@
 use Rattle.sigma_lower.proofs.Words.{chosen, ◌==◌, ◌≡◌, ℕ, suc, ◌+◌, ◌-◌, ◌*◌, ◌%◌, ◌^◌, ◌<◌, ◌≤◌, true, inl, inr}
 use Rattle.sigma_lower.proofs.Words.{arith, sym, subst, le-mul_of_pos_right, pow-succ', mul-le-mul, pow_mono, cases_lt}
 use Rattle.sigma_lower.proofs.Words.{and_from, nat_tests, IsProper, Sum, constant, variable, remainder, quotient, top}
-use Rattle.sigma_lower.proofs.Words.{scaled, joined, mods, Fits, pow-add, is_limited, parts, reduced, mods-proper}
-use Rattle.sigma_lower.proofs.Words.{parts-scaled, parts-joined, IsTame}
+use Rattle.sigma_lower.proofs.Words.{scaled, added, mods, Fits, pow-add, is_limited, parts, reduced, mods-proper}
+use Rattle.sigma_lower.proofs.Words.{parts-scaled, parts-added, IsTame}
 use Rattle.sigma_spl.specs.Merge.{total, are_small}
 use Rattle.sigma_spl.proofs.Small.{divided-true}
 use Rattle.sigma_spl.proofs.Within.{limited, small-true}
@@ -27,14 +27,14 @@ tame-scaled cs k (variable f d rest) h = tame-scaled cs k rest h
 tame-scaled cs k (remainder f of m rest) h = (h.0, tame-scaled cs k rest h.1)
 tame-scaled cs k (quotient f of m rest) h = absurd h
 
-pub tame-joined : (cs : ℕ → ℕ) (a e : Sum) → IsTame cs a → IsTame cs e → IsTame cs (joined a e)
-tame-joined cs (constant c) (constant d) h g = tt
-tame-joined cs (constant c) (variable f d rest) h g = tame-joined cs (constant c) rest tt g
-tame-joined cs (constant c) (remainder f of m rest) h g = (g.0, tame-joined cs (constant c) rest tt g.1)
-tame-joined cs (constant c) (quotient f of m rest) h g = absurd g
-tame-joined cs (variable f d rest) e h g = tame-joined cs rest e h g
-tame-joined cs (remainder f of m rest) e h g = (h.0, tame-joined cs rest e h.1 g)
-tame-joined cs (quotient f of m rest) e h g = absurd h
+pub tame-added : (cs : ℕ → ℕ) (a e : Sum) → IsTame cs a → IsTame cs e → IsTame cs (added a e)
+tame-added cs (constant c) (constant d) h g = tt
+tame-added cs (constant c) (variable f d rest) h g = tame-added cs (constant c) rest tt g
+tame-added cs (constant c) (remainder f of m rest) h g = (g.0, tame-added cs (constant c) rest tt g.1)
+tame-added cs (constant c) (quotient f of m rest) h g = absurd g
+tame-added cs (variable f d rest) e h g = tame-added cs rest e h g
+tame-added cs (remainder f of m rest) e h g = (h.0, tame-added cs rest e h.1 g)
+tame-added cs (quotient f of m rest) e h g = absurd h
 
 tame-mods : (cs : ℕ → ℕ) (n : ℕ) (e : Sum) → IsTame cs e → IsTame cs (mods n e)
 tame-mods cs n (constant c) h = tt
@@ -94,10 +94,10 @@ few-both r s j k h g =
     subst (λ x. x ≤ r * s * (r * s)) (sym (pow-add 2 j k)) (subst (λ y. 2 ^ j * 2 ^ k ≤ y) turned both)
 
 -- a multiple and a rest
-pub few-joined : (r s : ℕ) (a e : Sum) → 2 ^ parts a ≤ r * r → 2 ^ parts e ≤ s * s →
-    2 ^ parts (joined (scaled s a) e) ≤ r * s * (r * s)
-few-joined r s a e h g =
-    let is : parts a + parts e ≡ parts (joined (scaled s a) e) = omega (arith, parts-joined (scaled s a) e, parts-scaled s a) in
+pub few-added : (r s : ℕ) (a e : Sum) → 2 ^ parts a ≤ r * r → 2 ^ parts e ≤ s * s →
+    2 ^ parts (added (scaled s a) e) ≤ r * s * (r * s)
+few-added r s a e h g =
+    let is : parts a + parts e ≡ parts (added (scaled s a) e) = omega (arith, parts-added (scaled s a) e, parts-scaled s a) in
     subst (λ k. 2 ^ k ≤ r * s * (r * s)) is (few-both r s (parts a) (parts e) h g)
 
 -- two parts more, in an array at least twice as long

@@ -1,6 +1,6 @@
 -- Places under tensors of which those of one copy are left out: they are the places under all of them, where 0 names the one copy.
 use Rattle.sigma_lower.proofs.Words.{◌≡◌, ℕ, ◌+◌, ◌≤◌, Bool, true, false, arith, refl, sym, ap, ap₂, ◌∙◌, List, [], ◌∷◌}
-use Rattle.sigma_lower.proofs.Words.{if◌then◌else◌, subst, ◌==◌, Mapping, Sum, constant, variable, scaled, joined}
+use Rattle.sigma_lower.proofs.Words.{if◌then◌else◌, subst, ◌==◌, Mapping, Sum, constant, variable, scaled, added}
 use Rattle.sigma_lower.proofs.Words.{simplified, HasRoomFor, Fits, place_sum, AreCounts, wrapped, is-one, size-within}
 use Rattle.sigma_lower.proofs.Words.{within_all, Tensor, Blocks, Columns, Path, count_of, grown, size_under}
 use Rattle.sigma_lower.proofs.TreeLoops.InCopies.{placed, AreCopies, simplified-placed, room-placed}
@@ -21,17 +21,17 @@ kept (t ∷ ts) (u ∷ us) = if count_of t == 1 then kept ts us else u ∷ kept 
 pub one-copy : (t : Tensor) (path : Path) (n : ℕ) (u : Sum) (us : List Sum) (e : Sum) (cs : ℕ → ℕ) → count_of t ≡ 1 →
     Fits (count_of t) u cs → placed (t ∷ path) n (u ∷ us) e ≡ placed path n us e
 one-copy (Blocks c) path n u us e cs one f =
-    ap (λ w. joined (scaled (size_under path n) w) (placed path n us e)) (fits-one u cs (subst (λ k. Fits k u cs) one f)) ∙ placed-one_block path n us e
+    ap (λ w. added (scaled (size_under path n) w) (placed path n us e)) (fits-one u cs (subst (λ k. Fits k u cs) one f)) ∙ placed-one_block path n us e
 one-copy (Columns c) path n u us e cs one f =
-    ap₂ (λ k w. joined (scaled k (placed path n us e)) w) one (fits-one u cs (subst (λ k. Fits k u cs) one f)) ∙ placed-one_column path n us e
+    ap₂ (λ k w. added (scaled k (placed path n us e)) w) one (fits-one u cs (subst (λ k. Fits k u cs) one f)) ∙ placed-one_column path n us e
 
 placed-pick : (b : Bool) (t : Tensor) (path inner : Path) (n : ℕ) (u : Sum) (us vs : List Sum) (e : Sum) (cs : ℕ → ℕ) →
     (b ≡ true → count_of t ≡ 1) → Fits (count_of t) u cs → size_under inner n ≡ size_under path n →
     placed path n us e ≡ placed inner n vs e →
     placed (t ∷ path) n (u ∷ us) e ≡ placed (if b then inner else t ∷ inner) n (if b then vs else u ∷ vs) e
 placed-pick true t path inner n u us vs e cs one f size is = one-copy t path n u us e cs (one refl) f ∙ is
-placed-pick false (Blocks c) path inner n u us vs e cs one f size is = ap₂ (λ k g. joined (scaled k u) g) (sym size) is
-placed-pick false (Columns c) path inner n u us vs e cs one f size is = ap (λ g. joined (scaled c g) u) is
+placed-pick false (Blocks c) path inner n u us vs e cs one f size is = ap₂ (λ k g. added (scaled k u) g) (sym size) is
+placed-pick false (Columns c) path inner n u us vs e cs one f size is = ap (λ g. added (scaled c g) u) is
 
 pub placed-within : (ts : Path) (n : ℕ) (us : List Sum) (e : Sum) (cs : ℕ → ℕ) → AreCopies ts us cs →
     placed ts n us e ≡ placed (within_all ts []) n (kept ts us) e
@@ -81,9 +81,9 @@ natural-pick : (b : Bool) (t : Tensor) (path ts : Path) (n d : ℕ) (e : Sum) �
     ((if b then constant 0 else variable 1 d (constant 0)) ∷ copies_from ts (if b then d else d + 1)) e
 natural-pick true (Blocks c) path ts n d e one size is = is d ∙ sym (placed-one_block ts n (copies_from ts d) e)
 natural-pick true (Columns c) path ts n d e one size is =
-    is d ∙ sym (placed-one_column ts n (copies_from ts d) e) ∙ ap (λ k. joined (scaled k (placed ts n (copies_from ts d) e)) (constant 0)) (sym (one refl))
-natural-pick false (Blocks c) path ts n d e one size is = ap₂ (λ k g. joined (scaled k (variable 1 d (constant 0))) g) size (is (d + 1))
-natural-pick false (Columns c) path ts n d e one size is = ap (λ g. joined (scaled c g) (variable 1 d (constant 0))) (is (d + 1))
+    is d ∙ sym (placed-one_column ts n (copies_from ts d) e) ∙ ap (λ k. added (scaled k (placed ts n (copies_from ts d) e)) (constant 0)) (sym (one refl))
+natural-pick false (Blocks c) path ts n d e one size is = ap₂ (λ k g. added (scaled k (variable 1 d (constant 0))) g) size (is (d + 1))
+natural-pick false (Columns c) path ts n d e one size is = ap (λ g. added (scaled c g) (variable 1 d (constant 0))) (is (d + 1))
 
 pub natural-placed : (ts : Path) (n d : ℕ) (e : Sum) → place_sum (within_all ts []) n d e
     ≡ placed ts n (copies_from ts d) e

@@ -1,13 +1,13 @@
 -- A diagonal of one entry over all words takes every place to its first factor.
 use Rattle.sigma_lower.proofs.Words.{◌≡◌, ℕ, ◌%◌, ◌<◌, Bool, true, false, List, [], ◌∷◌, ◌++◌, refl, sym, ap, ap₂, ◌∙◌}
 use Rattle.sigma_lower.proofs.Words.{arith, subst, mod-lt, if◌then◌else◌, map, ◌==◌, ◌&&◌, nat_tests, and_from, Mapping}
-use Rattle.sigma_lower.proofs.Words.{Sum, constant, variable, remainder, quotient, Divided, joined, simplified, top}
+use Rattle.sigma_lower.proofs.Words.{Sum, constant, variable, remainder, quotient, Divided, added, simplified, top}
 use Rattle.sigma_lower.proofs.Words.{within, Blocks, Path, all_simplified, inner_of, nat_lt, list_all, carries_sum}
 use Rattle.sigma_lower.proofs.Words.{is_limited}
 use Rattle.sigma_spl.proofs.Carried.{carried-next, carried-room}
 use Rattle.sigma_spl.proofs.Walk.{and-left, and-right}
 use Rattle.perm_algebra.specs.Affine.{divided, head, rest_of}
-use Rattle.perm_algebra.specs.Room.{can_join, can_scale, has_room, has_top}
+use Rattle.perm_algebra.specs.Room.{can_add, can_scale, has_room, has_top}
 
 -- where the diagonal stands, and the function that finds its entry
 abbrev pub closing_path : ℕ → Path
@@ -53,7 +53,7 @@ module _ (cs : ℕ → ℕ) where
     where
       by : (b : Bool) → (n == 1) ≡ b → simplified cs (inner_of (if b then [] else Blocks n ∷ []) 1) e ≡ constant 0
       by true is = alone (grind (arith, nat_tests))
-      by false is = ap (λ r. joined (constant 0) r) (rem-of-one e)
+      by false is = ap (λ r. added (constant 0) r) (rem-of-one e)
 
   first-room : (n : ℕ) (e : Sum) → has_room cs (closing_place n) e ≡ true
   first-room n e = by (n == 1)
@@ -61,7 +61,7 @@ module _ (cs : ℕ → ℕ) where
       by : (b : Bool) → has_room cs (inner_of (if b then [] else Blocks n ∷ []) 1) e ≡ true
       by true = refl
       by false =
-          ap₂ (λ r q. has_top cs r && (true && (true && (can_scale 0 (constant 0) && can_join (constant 0) q))))
+          ap₂ (λ r q. has_top cs r && (true && (true && (can_scale 0 (constant 0) && can_add (constant 0) q))))
           (rest-of-one e) (rem-of-one e)
 
   -- ---- sums that are within the limits stay so

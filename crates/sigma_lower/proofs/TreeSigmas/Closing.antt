@@ -4,7 +4,7 @@ use Rattle.sigma_lower.proofs.Words.{Some, All, length, map, All-head, All-tail,
 use Rattle.sigma_lower.proofs.Words.{multiplier_cost, LastIs, on_last, PlainLoop, PlainTaken, multiplier_of, one_nest}
 use Rattle.sigma_lower.proofs.Words.{PlainNest, pass_cost, pass_loads, work_cost, IsReadyLoop, work_size, in_order}
 use Rattle.sigma_lower.proofs.Words.{PlainPass, loop_of, option_map, taken_of}
-use Rattle.smp_rewrite.specs.LayoutSteps.Whole.{IsGoodFactor}
+use Rattle.smp_rewrite.specs.Layout.Whole.{IsGoodFactor}
 use Rattle.sigma_lower.proofs.TreeSigmas.Bounds.{IsBounded}
 use Rattle.sigma_lower.proofs.TreeSigmas.ClosedCounts.{more_by, more_last}
 use Rattle.sigma_lower.proofs.TreeSigmas.ClosedLoops.{TakesClosing, closed_loop, ready-closed}

@@ -27,7 +27,7 @@ use Rattle.sigma_lower.proofs.TreeSigmas.ClosedPhases.{IsPhase, closing_loops, e
 use Rattle.sigma_lower.proofs.TreeSigmas.ClosedPhases.{whole-loops, whole-phases}
 use Rattle.sigma_lower.proofs.TreeSigmas.Closing.{takes-phases, whole-bounded, whole-costs, whole-length, whole-loads}
 use Rattle.sigma_lower.proofs.TreeSigmas.Closing.{closing-are, whole-ready}
-use Rattle.sigma_lower.proofs.TreeSigmas.Few.{AreFewMerged, few_merged}
+use Rattle.sigma_lower.proofs.TreeSigmas.PassCounts.{AreFewMerged, few_merged}
 use Rattle.sigma_lower.proofs.TreeSigmas.Hosted.{IsHosted}
 use Rattle.sigma_lower.proofs.TreeSigmas.Known.{AllKnown, IsKnown, layout-known}
 use Rattle.sigma_lower.proofs.TreeSigmas.Lasts.{HasItem, length-last, order-map}

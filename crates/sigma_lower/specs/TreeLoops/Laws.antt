@@ -5,9 +5,9 @@ use Rattle.sigma_lower.specs.TreeLoops.Merge.{PlainDiagonal, PlainPass}
 use Rattle.matrix_meaning.specs.Valid.{IsValid}
 use Rattle.matrix_meaning.specs.declared.Request.{Request}
 use Rattle.sigma_spl.specs.Work.{PlainWork, kernel, rows, horner, tile, copy}
-use Rattle.smp_rewrite.specs.LayoutSteps.Layout.{Layout, work, by, layout_size}
+use Rattle.smp_rewrite.specs.Layout.Tree.{Layout, work, by, layout_size}
 use Rattle.sigma_spl.specs.Shared.Costs.{work_cost}
-use Rattle.operators.specs.TensorPaths.Path.{copies_of}
+use Rattle.operators.specs.Paths.Tensors.{copies_of}
 use Rattle.tree_model.specs.Admissible.{RootFits}
 use Rattle.tree_model.specs.Breakdown.{Breakdown, size_of}
 use Rattle.tree_model.specs.Cost.{is_plain}

@@ -6,7 +6,7 @@ use Rattle.sigma_spl.specs.Loops.{loops_in, AreLimitedLoops}
 use Rattle.sigma_spl.specs.Merge.{most}
 use Rattle.sigma_lower.specs.TreeTerms.Term.{PlainTerm, lowered_of}
 use Rattle.smp_rewrite.specs.Fits.{CanShareLayout}
-use Rattle.smp_rewrite.specs.LayoutSteps.Layout.{Layout, IsGoodLayout}
+use Rattle.smp_rewrite.specs.Layout.Tree.{Layout, IsGoodLayout}
 use Rattle.operators.specs.declared.target.Target.{Target}
 
 abbrev pub AreLimitedPhases : Target → List (List PlainTerm) → Type 0

@@ -5,9 +5,9 @@ pub use Rattle.sigma_spl.specs.Loops.{through}
 use Rattle.sigma_spl.specs.Work.{PlainWork, work_size}
 use Rattle.sigma_lower.specs.TreeTerms.Wrapped.{inner_of}
 use Rattle.sigma_lower.specs.TreeTerms.Term.{PlainTerm, gath, scat, diag, nest, lowered_of}
-use Rattle.smp_rewrite.specs.LayoutSteps.Layout.{Layout}
+use Rattle.smp_rewrite.specs.Layout.Tree.{Layout}
 use Rattle.operators.specs.declared.target.Target.{Target}
-use Rattle.operators.specs.TensorPaths.Path.{Path, place}
+use Rattle.operators.specs.Paths.Tensors.{Path, place}
 
 -- the diagonal of a ct with its root, taken at what these functions make of a place of the pass
 pub record PlainDiagonal : Type 0 where

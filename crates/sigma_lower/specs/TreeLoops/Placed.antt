@@ -10,8 +10,8 @@ use Rattle.sigma_lower.specs.TreeTerms.Wrapped.{inner_of}
 use Rattle.sigma_lower.specs.TreeLoops.Merge.{PlainDiagonal, PlainPass}
 pub use Rattle.sigma_spl.specs.Merge.{place_sum, all_simplified}
 use Rattle.operators.specs.declared.target.Target.{Target}
-use Rattle.operators.specs.declared.tensor_paths.Tensor.TheVariants.{Blocks, Columns}
-use Rattle.operators.specs.TensorPaths.Path.{Path}
+use Rattle.operators.specs.declared.paths.Tensor.TheVariants.{Blocks, Columns}
+use Rattle.operators.specs.Paths.Tensors.{Path}
 
 -- the variables from d on run below the path's factors, each at least 2, and no size is 0
 abbrev pub AreCounts : Path → ℕ → ℕ → (ℕ → ℕ) → Type 0

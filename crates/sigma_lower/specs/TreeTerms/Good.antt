@@ -3,9 +3,9 @@ use Rattle.std.specs.Prelude.{◌≡◌, ℕ, ◌*◌, ◌<◌, ◌≤◌, List,
 use Rattle.std.specs.Int.{IsGcd}
 use Rattle.operators.specs.Sizes.{max_size}
 use Rattle.sigma_spl.specs.Work.{PlainWork, tile, copy, HasWords}
-use Rattle.smp_rewrite.specs.LayoutSteps.Meaning.{core_size}
-use Rattle.smp_rewrite.specs.LayoutSteps.Step.{PlainCore, piece, turns, twiddles, thomas_in, thomas_out, PlainStep}
-use Rattle.operators.specs.TensorPaths.Path.{size_under}
+use Rattle.smp_rewrite.specs.Layout.Meaning.{core_size}
+use Rattle.smp_rewrite.specs.Layout.Step.{PlainCore, piece, turns, twiddles, thomas_in, thomas_out, PlainStep}
+use Rattle.operators.specs.Paths.Tensors.{size_under}
 
 pub record AreCoprime (r s : ℕ) : Type 0 where
   pub left : 0 < r

@@ -6,12 +6,12 @@ use Rattle.operators.specs.Loop.{scatter}
 use Rattle.operators.specs.Operator.{Operator, gather, scale}
 use Rattle.smp_rewrite.specs.Cut.{layout_smp}
 use Rattle.smp_rewrite.specs.Smp.{within}
-use Rattle.smp_rewrite.specs.LayoutSteps.Layout.{Layout}
+use Rattle.smp_rewrite.specs.Layout.Tree.{Layout}
 use Rattle.operators.specs.declared.target.Target.{Target}
-use Rattle.smp_rewrite.specs.LayoutSteps.Step.{PlainStep, PlainCore, piece, turns, twiddles, thomas_in, thomas_out}
-use Rattle.operators.specs.declared.tensor_paths.Tensor.TheVariants.{Blocks}
-use Rattle.operators.specs.TensorPaths.Loop.{loop_on}
-use Rattle.operators.specs.TensorPaths.Path.{Path, place}
+use Rattle.smp_rewrite.specs.Layout.Step.{PlainStep, PlainCore, piece, turns, twiddles, thomas_in, thomas_out}
+use Rattle.operators.specs.declared.paths.Tensor.TheVariants.{Blocks}
+use Rattle.operators.specs.Paths.Loop.{loop_on}
+use Rattle.operators.specs.Paths.Tensors.{Path, place}
 use Rattle.vec_rewrite.specs.Turning.{vec_of}
 use Rattle.vec_rewrite.specs.Vectors.{PlainFactor, lanes, diagonals, move_before, move_after, tiles, PlainVec}
 use Rattle.vec_rewrite.specs.Vectors.{factor_step}

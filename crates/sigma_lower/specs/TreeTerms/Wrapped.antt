@@ -3,8 +3,8 @@ use Rattle.std.specs.Prelude.{ℕ, [], ◌∷◌}
 use Rattle.index_fn.specs.Mapping.{Mapping, Same, Paired}
 pub use Rattle.sigma_spl.specs.Merge.{unit_below}
 pub use Rattle.sigma_spl.specs.Nest.{inner_of}
-use Rattle.operators.specs.declared.tensor_paths.Tensor.TheVariants.{Blocks, Columns}
-use Rattle.operators.specs.TensorPaths.Path.{Path, size_under}
+use Rattle.operators.specs.declared.paths.Tensor.TheVariants.{Blocks, Columns}
+use Rattle.operators.specs.Paths.Tensors.{Path, size_under}
 
 -- the index function of a permutation of size n under the tensors of the path
 abbrev pub wrapped : Path → ℕ → Mapping → Mapping

@@ -1,4 +1,4 @@
-use Rattle.sigma_spl.proofs.PassPlaces as laws
+use Rattle.sigma_spl.proofs.Places as laws
 use Rattle.sigma_spl.proofs.pass_stores.Goals as goal
 
 pub returns : goal.returns

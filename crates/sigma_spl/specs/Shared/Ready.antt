@@ -2,7 +2,7 @@
 use Rattle.std.specs.Prelude.{◌≡◌, ℕ, ◌+◌, ◌^◌, ◌<◌, ◌≤◌, ◌++◌, true, List, [], ◌∷◌, length, slice_index}
 use Rattle.std.specs.Prelude.{slice_index_or, All, Option, Some, None}
 use Rattle.operators.specs.Sizes.{max_size}
-use Rattle.operators.specs.TensorPaths.Path.{AreInRange}
+use Rattle.operators.specs.Paths.Tensors.{AreInRange}
 use Rattle.operators.specs.declared.target.Target.{Target}
 use Rattle.perm_algebra.specs.Affine.{constant, value}
 use Rattle.sigma_spl.specs.Copies.{loops_of}

@@ -7,7 +7,7 @@ use Rattle.sigma_spl.specs.Copies.{loops_of, StoreOnce, IsInside}
 use Rattle.sigma_spl.specs.Nest.{PlainMultiplier, PlainNest, factor_at, factor_count, copies_of, load_place}
 use Rattle.sigma_spl.specs.Nest.{store_place}
 use Rattle.sigma_spl.specs.Work.{PlainWork, kernel, rows, horner, tile, copy, work_size, vectors_of}
-use Rattle.operators.specs.TensorPaths.Path.{AreInRange}
+use Rattle.operators.specs.Paths.Tensors.{AreInRange}
 use Rattle.operators.specs.declared.target.Target.{Target}
 
 -- work whose code does what it stands for

@@ -2,7 +2,7 @@ use Rattle.std.proofs.Common.{rules, ◌≡◌, map, take, drop, ap, ◌∙◌}
 use Rattle.std.proofs.lemmas.List.{take-map, drop-map}
 use Rattle.std.specs.List.{flat_map}
 use Rattle.sigma_spl.specs.Shared.Targets.{target_of}
-use Rattle.smp_rewrite.specs.LayoutSteps.Views.{plain_step}
+use Rattle.smp_rewrite.specs.Layout.Views.{plain_step}
 use Rattle.smp_rewrite.specs.Cut.{factors_of, first_count}
 use Rattle.smp_rewrite.specs.Views.{plain_factor}
 use Rattle.smp_rewrite.proofs.cut_steps.Goals as goal

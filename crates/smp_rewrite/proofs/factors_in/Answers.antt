@@ -1,8 +1,8 @@
 use Rattle.std.proofs.Common.{rules, ◌≡◌, All, List, ◌++◌, map, subst, append_assoc}
 use Rattle.std.specs.List.{flat_map}
 use Rattle.std.proofs.lemmas.List.Elements.{All-tail}
-use Rattle.smp_rewrite.specs.LayoutSteps.Views.{plain_step}
-use Rattle.smp_rewrite.specs.declared.layout_steps.Step.{Step}
+use Rattle.smp_rewrite.specs.Layout.Views.{plain_step}
+use Rattle.smp_rewrite.specs.declared.layout.Step.{Step}
 use Rattle.smp_rewrite.specs.Cut.{factors_of}
 use Rattle.smp_rewrite.specs.Laws.{step_size}
 use Rattle.smp_rewrite.specs.Smp.{PlainFactor}

@@ -3,7 +3,7 @@ use Rattle.std.specs.List.{flat_map}
 use Rattle.smp_rewrite.specs.Cut.{factors_of}
 use Rattle.smp_rewrite.specs.Laws.{step_size}
 use Rattle.smp_rewrite.specs.Views.{plain_factor}
-use Rattle.smp_rewrite.specs.LayoutSteps.Views.{plain_step}
+use Rattle.smp_rewrite.specs.Layout.Views.{plain_step}
 use Rattle.smp_rewrite.proofs.factors_in.Given as goal
 
 abbrev pub invariant-loop-step : goal.invariant-loop-step

@@ -1,6 +1,6 @@
 use Rattle.std.specs.Prelude.{◌≡◌, ◌+◌, drop, map}
 use Rattle.smp_rewrite.specs.Cut.{right_count}
-use Rattle.smp_rewrite.specs.LayoutSteps.Views.{plain_step}
+use Rattle.smp_rewrite.specs.Layout.Views.{plain_step}
 use Rattle.smp_rewrite.proofs.right_count.Given as goal
 
 abbrev pub invariant-loop-step : goal.invariant-loop-step

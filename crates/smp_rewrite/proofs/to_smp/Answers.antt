@@ -9,11 +9,11 @@ use Rattle.smp_rewrite.specs.Walk.{closing_in, tree_steps}
 use Rattle.smp_rewrite.proofs.Sized.{sized_steps}
 use Rattle.smp_rewrite.proofs.TreeLaws.{smp_transforms, smp_costs, smp_shaped, layouts_fit}
 use Rattle.smp_rewrite.proofs.Walks.{whole_factor, whole_formula, whole_steps}
-use Rattle.smp_rewrite.specs.LayoutSteps.Layout.{layout_of}
+use Rattle.smp_rewrite.specs.Layout.Tree.{layout_of}
 use Rattle.kernel_gen.specs.Nodes.{IsNodeTree}
 use Rattle.sigma_spl.specs.Shared.Targets.{target_of}
-use Rattle.smp_rewrite.specs.LayoutSteps.Whole.{whole_of}
-use Rattle.smp_rewrite.proofs.LayoutSteps.Wholes.{forward_tree, wholes_are_good, wholes_do, wholes_cost}
+use Rattle.smp_rewrite.specs.Layout.Whole.{whole_of}
+use Rattle.smp_rewrite.proofs.Layout.Wholes.{forward_tree, wholes_are_good, wholes_do, wholes_cost}
 use Rattle.tree_model.specs.Breakdown.{breakdown_of}
 use Rattle.smp_rewrite.proofs.to_smp.Goals as goal
 

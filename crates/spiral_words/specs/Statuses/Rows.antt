@@ -1,7 +1,7 @@
 -- The table of statuses: of each its number, and its line after `spiral: `.
 use Rattle.std.specs.Prelude.{[], ◌∷◌, None, Some, codes}
 use Rattle.request_text.specs.Fields.{field_word}
-use Rattle.io_edge.specs.StatusRows.Rows.{PlainRow, row}
+use Rattle.io_edge.specs.Status.Rows.{PlainRow, row}
 use Rattle.spiral_words.specs.declared.statuses.status.Status.{Status}
 use Rattle.spiral_words.specs.declared.statuses.status.Status.TheVariants.{Success, Usage, Syntax, Range, Shape, LanesLine, NotUnit, Turn, Root, NotPrincipal, NoDivide, OverBudget, BadNumber, Truncated, ReadFault, WriteFault, NoMemory, TooLong, Unread, Wrong, FormulaShape, TooDeep, ListingSyntax, Address, Register, LineShared, OverSteps}
 

@@ -1,6 +1,6 @@
 -- What the program answers with: its exit code and its line on the note.
 use Rattle.std.specs.Prelude.{◌≢◌, ℕ, List, codes}
-use Rattle.io_edge.specs.StatusRows.Rows.{line_of}
+use Rattle.io_edge.specs.Status.Rows.{line_of}
 use Rattle.spiral_words.specs.declared.statuses.status.Status.{Status}
 use Rattle.spiral_words.specs.declared.statuses.status.Status.TheVariants.{ReadFault, WriteFault, NoMemory}
 use Rattle.spiral_words.specs.Statuses.Rows.{row_of}

@@ -2,19 +2,19 @@
 ghost use Rattle.std.specs.Prelude.{◌≡◌};
 ghost use Rattle.io_edge.specs.Faults.{HasCause};
 ghost use Rattle.io_edge.specs.Taken.{WritesAll};
-ghost use Rattle.io_edge.specs.StatusRows.View.{plain_row};
+ghost use Rattle.io_edge.specs.Status.Views.{plain_row};
 ghost use Rattle.spiral_words.specs.Statuses.Rows.{row_of};
 ghost use Rattle.spiral_words.specs.Statuses.Status.{code_of, note_line};
 
 use crate::statuses::Status;
-use io_edge::{Row, Sink, WriteFault, row};
+use io_edge::{StatusRow, Sink, WriteFault, row};
 use request_text::Field;
 
 // Which field is out of its limits.
-fn range_row(field: Field, value: u64) -> Row
+fn range_row(field: Field, value: u64) -> StatusRow
     ensures { plain_row result ≡ row_of (Status.Range field value) }
 {
-    Row::new(
+    StatusRow::new(
         4,
         &[
             (field.word(), None),
@@ -26,7 +26,7 @@ fn range_row(field: Field, value: u64) -> Row
 
 impl Status {
     // The row of a status.
-    fn row(&self) -> Row
+    fn row(&self) -> StatusRow
         ensures { plain_row result ≡ row_of self.now }
     {
         match *self {

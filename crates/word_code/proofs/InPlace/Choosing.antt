@@ -9,8 +9,8 @@ use Rattle.icode.specs.declared.program.Stmt.{Stmt}
 use Rattle.icode.specs.Plain.{PlainExpr, PlainStmt, Loop, plain_stmt, plain_body}
 use Rattle.icode.proofs.Steps.{drop_item}
 use Rattle.word_code.specs.declared.in_place.routes.Route.{Route}
-use Rattle.word_code.specs.InPlace.Choice.{same_place, same_places, not_input, target_before, route_to, chosen}
-use Rattle.word_code.specs.InPlace.InPlace.{is_full, are_full}
+use Rattle.word_code.specs.InPlace.Routing.{same_place, same_places, not_input, target_before, route_to, chosen}
+use Rattle.word_code.specs.InPlace.Sharing.{is_full, are_full}
 
 -- the last statements have their routes, the last one first, and the `behind` before them store there
 pub record AreChosen (behind : ℕ) (body : List Stmt) (made : List Route) (into : Array) : Type 0 where

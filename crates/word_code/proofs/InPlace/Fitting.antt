@@ -12,7 +12,7 @@ use Rattle.icode.specs.Actions.{StepFits, PlainFits, steps_of_body, steps_of_pha
 use Rattle.icode.specs.Machine.{IsApart}
 use Rattle.icode.specs.Plain.{PlainOp, PlainProgram, Load, Store, Zero, Add, Sub, Neg, MulConst, MulTable, Tile}
 use Rattle.word_code.specs.Bare.{bare_body, bare, NumbersFit, WordsFit}
-use Rattle.word_code.specs.Quicken.{Laziness, quickened}
+use Rattle.word_code.specs.Quicken.{PlainLaziness, quickened}
 use Rattle.word_code.specs.WordMachine.{WordAction, under}
 use Rattle.word_code.specs.WordProgram.{Note, WordStmt, WordBody, PlainWordProgram, Loop, Do, NoStmts, AndStmts}
 use Rattle.word_code.specs.WordProgram.{word_actions_of_body, word_code}
@@ -23,7 +23,7 @@ use Rattle.word_code.proofs.Leaves.{leaf}
 use Rattle.word_code.proofs.Leaves.{leaves_of_stmt, leaves_of_body, act_at, step_at, body-acts, body-steps}
 use Rattle.word_code.proofs.Rows.{acts_are, lists_have}
 use Rattle.word_code.specs.declared.in_place.routes.Route.{Route}
-use Rattle.word_code.specs.InPlace.InPlace.{routes_of, in_place}
+use Rattle.word_code.specs.InPlace.Sharing.{routes_of, in_place}
 use Rattle.word_code.specs.InPlace.Routes.{rerouted_op, rerouted_stmt, rerouted_body, rerouted_phase, rerouted}
 use Rattle.word_code.proofs.InPlace.Law.{Goes, stays_or_goes, no_routes}
 
@@ -205,7 +205,7 @@ pub in_place_fits : (p : PlainProgram) (words : PlainWordProgram) → WordsFit w
 in_place_fits p words fit = rerouted_words_fit (routes_of p p.phases) words fit
 
 -- and its processors share no line: there is one alone, or nothing has changed
-pub in_place_apart : (z : Laziness) (p : PlainProgram) → ((phase : ℕ) → IsApart (plain_code p) phase) → (phase : ℕ) →
+pub in_place_apart : (z : PlainLaziness) (p : PlainProgram) → ((phase : ℕ) → IsApart (plain_code p) phase) → (phase : ℕ) →
     IsApart (under (word_code (in_place p (quickened z p)))) phase
 in_place_apart z p apart phase = ⊎_elim stays goes (stays_or_goes p p.phases)
   where

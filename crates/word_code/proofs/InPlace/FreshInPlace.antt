@@ -16,15 +16,15 @@ use Rattle.icode.proofs.Bools.{both_true}
 use Rattle.icode.proofs.FreshActions.{range_item}
 use Rattle.icode.proofs.FreshLists as lists
 use Rattle.icode.proofs.Lines.{Contains-nil, Contains-range}
-use Rattle.word_code.specs.Quicken.{Laziness, loosest, header_of, quick_alone, quick_phases, quickened}
+use Rattle.word_code.specs.Quicken.{PlainLaziness, loosest, header_of, quick_alone, quick_phases, quickened}
 use Rattle.word_code.specs.WordMachine.{WordAction, actions_under, under}
 use Rattle.word_code.specs.WordProgram.{word_actions_of_body, word_code}
 use Rattle.word_code.specs.InPlace.Accesses.{Access, Reads, Writes, are_right, homes_after_all, accesses_of_phase}
-use Rattle.word_code.specs.InPlace.Choice.{chosen}
+use Rattle.word_code.specs.InPlace.Routing.{chosen}
 use Rattle.word_code.specs.InPlace.Homes.{Homes, own_homes, is_home, are_home, housed}
-use Rattle.word_code.specs.InPlace.InPlace.{in_place, routes_of}
+use Rattle.word_code.specs.InPlace.Sharing.{in_place, routes_of}
 use Rattle.word_code.specs.InPlace.Routes.{rerouted, rerouted_phase}
-use Rattle.word_code.specs.InPlace.View.{BodyFits}
+use Rattle.word_code.specs.InPlace.Views.{BodyFits}
 use Rattle.word_code.proofs.Bare.{bare_quickened, code_under_is}
 use Rattle.word_code.proofs.InPlace.Law.{Goes, no_routes, one_list, one_phase, stays_or_goes}
 use Rattle.word_code.proofs.InPlace.Pairing.{chosen_reach, phase_pairs}
@@ -364,7 +364,7 @@ own-leads-first lanes words size =
           subst (λ k. k < size) same known;
     }
 
-goes_fresh : (z : Laziness) (p : PlainProgram) (g : Goes p p.phases) → PlainFits p → 1 ≤ p.line →
+goes_fresh : (z : PlainLaziness) (p : PlainProgram) (g : Goes p p.phases) → PlainFits p → 1 ≤ p.line →
     IsFresh (plain_code p) → IsFresh (under (word_code (rerouted (chosen g.body) (quickened z p))))
 goes_fresh z p g fits line fresh =
     let words = whole_lines p.size p.line in
@@ -412,7 +412,7 @@ goes_fresh z p g fits line fresh =
     (pairs-read p.lanes (4 * words) fs gs accesses (λ r. ⊥) pairs parts.1) result
 
 -- where the program is fresh, so are its words in place
-pub in_place_fresh : (z : Laziness) (p : PlainProgram) → PlainFits p → 1 ≤ p.line → IsFresh (plain_code p) →
+pub in_place_fresh : (z : PlainLaziness) (p : PlainProgram) → PlainFits p → 1 ≤ p.line → IsFresh (plain_code p) →
     IsFresh (under (word_code (in_place p (quickened z p))))
 in_place_fresh z p fits line fresh = ⊎_elim stays goes (stays_or_goes p p.phases)
   where

@@ -9,16 +9,16 @@ use Rattle.icode.specs.Actions.{StepFits, PlainFits, steps_of_body}
 use Rattle.icode.specs.Machine.{Local, whole_lines}
 use Rattle.icode.specs.Plain.{PlainBody, PlainProgram, NoStmts}
 use Rattle.icode.proofs.Bools.{both_true}
-use Rattle.word_code.specs.Quicken.{Laziness, Header, loosest, header_of, quick_alone, quick_phases, quickened}
+use Rattle.word_code.specs.Quicken.{PlainLaziness, Header, loosest, header_of, quick_alone, quick_phases, quickened}
 use Rattle.word_code.specs.WordMachine.{WordAction, word_results}
 use Rattle.word_code.specs.WordProgram.{WordBody, PlainWordProgram, word_actions_of_body, word_code}
 use Rattle.word_code.specs.InPlace.Homes.{own_homes}
 use Rattle.word_code.specs.InPlace.Accesses.{are_right, homes_after_all, accesses_of_phase}
-use Rattle.word_code.specs.InPlace.Choice.{chosen}
-use Rattle.word_code.specs.InPlace.InPlace.{are_full, are_loops, may_go, routes_of, in_place}
+use Rattle.word_code.specs.InPlace.Routing.{chosen}
+use Rattle.word_code.specs.InPlace.Sharing.{are_full, are_loops, may_go, routes_of, in_place}
 use Rattle.word_code.specs.InPlace.Laws.{LeavesAlike, InPlaceLeavesTheSame}
 use Rattle.word_code.specs.InPlace.Routes.{rerouted_phase, rerouted}
-use Rattle.word_code.specs.InPlace.View.{BodyFits}
+use Rattle.word_code.specs.InPlace.Views.{BodyFits}
 use Rattle.word_code.proofs.InPlace.Effects.{effects_alike}
 use Rattle.word_code.proofs.Simulation.{size_within}
 use Rattle.word_code.proofs.OneProcessor.{word_effects, start_alone, results_alone}
@@ -54,7 +54,7 @@ same_bodies : (bodies : List WordBody) → map (rerouted_phase []) bodies ≡ bo
 same_bodies [] = refl
 same_bodies (body ∷ bodies) = ap (λ rest. body ∷ rest) (same_bodies bodies)
 
-pub no_routes : (z : Laziness) (p : PlainProgram) → rerouted [] (quickened z p) ≡ quickened z p
+pub no_routes : (z : PlainLaziness) (p : PlainProgram) → rerouted [] (quickened z p) ≡ quickened z p
 no_routes z p =
     let with_phases : List WordBody → PlainWordProgram = λ phases. record (quickened z p) { phases = phases } in
     ap with_phases (same_bodies (quick_phases z (header_of p) p.procs p.phases))
@@ -70,7 +70,7 @@ one_list w body bodies procs only alone =
     ∙ ap (map (λ body. map (λ q. word_actions_of_body w body [] q) (range_with_len 0 1))) only
 
 -- the only phase of the only processor on words
-pub one_phase : (z : Laziness) (h : Header) (procs : ℕ) (phases : List PlainBody) (body : PlainBody) → phases ≡ body ∷ [] →
+pub one_phase : (z : PlainLaziness) (h : Header) (procs : ℕ) (phases : List PlainBody) (body : PlainBody) → phases ≡ body ∷ [] →
     procs ≡ 1 →
     quick_phases z h procs phases ≡ (quick_alone z h body (loosest z h)).body ∷ []
 one_phase z h procs phases body only alone = ap (quick_phases z h procs) only ∙ ap (λ n. quick_phases z h n (body ∷ [])) alone
@@ -83,7 +83,7 @@ start_long words size x le =
     omega (arith, le, both, zeros)
 
 -- by its chosen routes the program leaves what it left
-goes_alike : (z : Laziness) (p : PlainProgram) (g : Goes p p.phases) → PlainFits p → 1 ≤ p.line →
+goes_alike : (z : PlainLaziness) (p : PlainProgram) (g : Goes p p.phases) → PlainFits p → 1 ≤ p.line →
     LeavesAlike (rerouted (chosen g.body) (quickened z p)) (quickened z p)
 goes_alike z p g fits line x turns long =
     let words = whole_lines p.size p.line in
@@ -125,7 +125,7 @@ in_place_is_same z p fits line = ⊎_elim stays goes (stays_or_goes p p.phases)
     goes : Goes p p.phases → LeavesAlike (in_place p (quickened z p)) (quickened z p)
     goes g = subst (λ routes. LeavesAlike (rerouted routes (quickened z p)) (quickened z p)) (sym g.routes) (goes_alike z p g fits line)
 
-pub alike_from : (z : Laziness) (p : PlainProgram) (words made : PlainWordProgram) → PlainFits p → 1 ≤ p.line →
+pub alike_from : (z : PlainLaziness) (p : PlainProgram) (words made : PlainWordProgram) → PlainFits p → 1 ≤ p.line →
     made ≡ in_place p words → words ≡ quickened z p → LeavesAlike made words
 alike_from z p words made fits line is quick =
     subst (λ made. LeavesAlike made words) (sym is)

@@ -12,7 +12,7 @@ use Rattle.icode.specs.Plain.{PlainOp, PlainStmt, PlainBody, PlainProgram, Load,
 use Rattle.icode.specs.Plain.{MulTable, Tile}
 use Rattle.icode.specs.Plain as plain
 use Rattle.word_code.specs.Needs.{needs}
-use Rattle.word_code.specs.Quicken.{Laziness, loosest, loosened, header_of, quick_stmt, quick_body, quick_alone}
+use Rattle.word_code.specs.Quicken.{PlainLaziness, loosest, loosened, header_of, quick_stmt, quick_body, quick_alone}
 use Rattle.word_code.specs.Quicken.{quickened}
 use Rattle.word_code.specs.WordMachine.{WordAction}
 use Rattle.word_code.specs.WordProgram.{Note, PlainWordProgram, word_action_of, word_actions_of_stmt}
@@ -20,9 +20,9 @@ use Rattle.word_code.specs.WordProgram.{word_actions_of_body}
 use Rattle.word_code.specs.declared.in_place.routes.Route.{Route}
 use Rattle.word_code.specs.InPlace.Accesses.{Access, Reads, Writes, accesses_of, accesses_of_stmt, accesses_of_body}
 use Rattle.word_code.specs.InPlace.Accesses.{accesses_of_phase}
-use Rattle.word_code.specs.InPlace.Choice.{chosen}
+use Rattle.word_code.specs.InPlace.Routing.{chosen}
 use Rattle.word_code.specs.InPlace.Routes.{rerouted_op, rerouted_stmt, rerouted_body, rerouted_phase, rerouted}
-use Rattle.word_code.specs.InPlace.View.{StmtFits, BodyFits}
+use Rattle.word_code.specs.InPlace.Views.{StmtFits, BodyFits}
 use Rattle.nests.proofs.Listed.{all-left, all-right}
 use Rattle.word_code.proofs.InPlace.Pairs.{IsInner, IsTouchPair, ArePairs, pairs-append, stored}
 use Rattle.code_check.proofs.Regular.{array_inside}
@@ -38,7 +38,7 @@ pub chosen_reach : (body : PlainBody) → ReachAll (chosen body) body
 chosen_reach plain.NoStmts = tt
 chosen_reach (plain.AndStmts stmt rest) = chosen_reach rest
 
-module _ (z : Laziness) (p : PlainProgram) (all : List Route) where
+module _ (z : PlainLaziness) (p : PlainProgram) (all : List Route) where
   -- the program on words, and it by routes
   abbrev words_of : PlainWordProgram
   words_of = quickened z p
@@ -103,7 +103,7 @@ module _ (z : Laziness) (p : PlainProgram) (all : List Route) where
       (turns_pairs f g a s each is (all-right (StepFits p) (s i) (flat_map s is) fits))
 
   mutual
-    stmt_pairs : (y : Laziness) (route : Route) (stmt : PlainStmt) (bounds vs : List ℕ) → StmtFits p stmt vs →
+    stmt_pairs : (y : PlainLaziness) (route : Route) (stmt : PlainStmt) (bounds vs : List ℕ) → StmtFits p stmt vs →
         Alike (word_actions_of_stmt words_of (quick_stmt y (header_of p) stmt bounds).stmt vs 0)
         (word_actions_of_stmt other_of (rerouted_stmt route (quick_stmt y (header_of p) stmt bounds).stmt) vs 0)
         (accesses_of_stmt p route stmt vs)
@@ -118,7 +118,7 @@ module _ (z : Laziness) (p : PlainProgram) (all : List Route) where
         (range_with_len 0 count) fits
     stmt_pairs y route (plain.Do op) bounds vs fits = op_pairs route _ op vs (All-head (StepFits p) (step_of p op vs 0) [] fits)
 
-    body_pairs : (y : Laziness) (route : Route) (body : PlainBody) (bounds vs : List ℕ) → BodyFits p body vs →
+    body_pairs : (y : PlainLaziness) (route : Route) (body : PlainBody) (bounds vs : List ℕ) → BodyFits p body vs →
         Alike (word_actions_of_body words_of (quick_body y (header_of p) body bounds).body vs 0)
         (word_actions_of_body other_of (rerouted_body route (quick_body y (header_of p) body bounds).body) vs 0)
         (accesses_of_body p route body vs)

@@ -6,7 +6,7 @@ use Rattle.std.proofs.Math.ListN.{get_or-map}
 use Rattle.std.proofs.lemmas.List.{length-map, map-set}
 use Rattle.word_code.specs.declared.program.WordStmt.{WordStmt}
 use Rattle.word_code.specs.WordProgram as plain
-use Rattle.word_code.specs.View.{word_body_of, plain_word_stmt, plain_word_body}
+use Rattle.word_code.specs.Views.{word_body_of, plain_word_stmt, plain_word_body}
 use Rattle.word_code.specs.declared.in_place.routes.Route.{Route}
 use Rattle.word_code.specs.InPlace.Routes.{rerouted_stmt, rerouted_body, rerouted_phase}
 

@@ -16,7 +16,7 @@ use Rattle.word_code.specs.declared.in_place.routes.Route.{Route}
 use Rattle.word_code.specs.InPlace.Accesses.{Access, are_right, homes_after_all, accesses_of_stmt, accesses_of_body}
 use Rattle.word_code.specs.InPlace.Accesses.{accesses_of_phase}
 use Rattle.word_code.specs.InPlace.Homes.{Homes}
-use Rattle.word_code.specs.InPlace.View.{StmtFits, BodyFits}
+use Rattle.word_code.specs.InPlace.Views.{StmtFits, BodyFits}
 use Rattle.nests.proofs.Listed.{all-left, all-right}
 use Rattle.word_code.proofs.InPlace.Walks.{right-append, after-append}
 

@@ -3,7 +3,7 @@
 ghost use Rattle.std.specs.Prelude.{◌≡◌, ◌+◌, ◌<◌, ◌≤◌, length, IfOk};
 ghost use Rattle.std.specs.List.{range_with_len};
 ghost use Rattle.word_code.specs.InPlace.Homes.{own_homes, is_home, are_home, housed};
-ghost use Rattle.word_code.specs.InPlace.View.{homes_of, IsTable};
+ghost use Rattle.word_code.specs.InPlace.Views.{homes_of, IsTable};
 
 use memory::NoMemory;
 use std::alloc::Global;

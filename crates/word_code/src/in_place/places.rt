@@ -2,9 +2,9 @@
 
 ghost use Rattle.std.specs.Prelude.{◌≡◌, ◌++◌, map, IfOk, OnOk};
 ghost use Rattle.icode.specs.Plain.{plain_expr, plain_op, plain_stmt, plain_body};
-ghost use Rattle.word_code.specs.InPlace.Choice.{same_place, same_places, stays, loaded_array, first_array};
-ghost use Rattle.word_code.specs.InPlace.Choice.{first_array_in, place_of, places_of, places_in};
-ghost use Rattle.word_code.specs.InPlace.View.{plain_places};
+ghost use Rattle.word_code.specs.InPlace.Routing.{same_place, same_places, stays, loaded_array, first_array};
+ghost use Rattle.word_code.specs.InPlace.Routing.{first_array_in, place_of, places_of, places_in};
+ghost use Rattle.word_code.specs.InPlace.Views.{plain_places};
 
 use icode::program::{Array, Expr, Op, Stmt};
 use memory::NoMemory;

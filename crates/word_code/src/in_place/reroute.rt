@@ -2,8 +2,8 @@
 
 ghost use Rattle.std.specs.Prelude.{◌≡◌, map};
 ghost use Rattle.icode.specs.Plain.{plain_op};
-ghost use Rattle.word_code.specs.View.{plain_word_stmt, plain_word_body};
-ghost use Rattle.word_code.specs.View.{plain_word_phases, plain_word_program};
+ghost use Rattle.word_code.specs.Views.{plain_word_stmt, plain_word_body};
+ghost use Rattle.word_code.specs.Views.{plain_word_phases, plain_word_program};
 ghost use Rattle.word_code.specs.InPlace.Routes.{rerouted_op, rerouted_stmt, rerouted_body};
 ghost use Rattle.word_code.specs.InPlace.Routes.{rerouted_phase, rerouted};
 

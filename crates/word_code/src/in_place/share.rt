@@ -5,15 +5,15 @@ ghost use Rattle.icode.specs.Machine.{IsApart};
 ghost use Rattle.icode.specs.Plain.{plain_stmt, plain_body};
 ghost use Rattle.icode.specs.Program.{plain_program, code_of, Fits};
 ghost use Rattle.word_code.specs.Bare.{WordsFit};
-ghost use Rattle.word_code.specs.Quicken.{Laziness, quickened};
-ghost use Rattle.word_code.specs.View.{plain_word_program};
+ghost use Rattle.word_code.specs.Quicken.{PlainLaziness, quickened};
+ghost use Rattle.word_code.specs.Views.{plain_word_program};
 ghost use Rattle.word_code.specs.WordMachine.{under};
 ghost use Rattle.word_code.specs.WordProgram.{word_code};
-ghost use Rattle.word_code.specs.InPlace.InPlace.{is_full, are_full, is_loop, are_loops};
-ghost use Rattle.word_code.specs.InPlace.InPlace.{routes_of, in_place};
+ghost use Rattle.word_code.specs.InPlace.Sharing.{is_full, are_full, is_loop, are_loops};
+ghost use Rattle.word_code.specs.InPlace.Sharing.{routes_of, in_place};
 ghost use Rattle.word_code.specs.InPlace.Laws.{LeavesAlike};
 
-use crate::in_place::choice::choose;
+use crate::in_place::routing::choose;
 use crate::in_place::reroute::reroute;
 use crate::in_place::routes::Route;
 use crate::in_place::walk::may_go;
@@ -97,12 +97,12 @@ pub fn work_in_place(
     requires fits { Fits program.now }
     ensures made { IfOk result (λ made. plain_word_program made
         ≡ in_place (plain_program program.now) (plain_word_program words)) }
-    ensures same { IfOk result (λ made. (z : Laziness)
+    ensures same { IfOk result (λ made. (z : PlainLaziness)
         → plain_word_program words ≡ quickened z (plain_program program.now)
         → LeavesAlike (plain_word_program made) (plain_word_program words)) }
     ensures fits { IfOk result
         (λ made. WordsFit (plain_word_program words) → WordsFit (plain_word_program made)) }
-    ensures apart { IfOk result (λ made. (z : Laziness)
+    ensures apart { IfOk result (λ made. (z : PlainLaziness)
         → plain_word_program words ≡ quickened z (plain_program program.now)
         → ((phase : ℕ) → IsApart (code_of program.now) phase)
         → (phase : ℕ) → IsApart (under (word_code (plain_word_program made))) phase) }

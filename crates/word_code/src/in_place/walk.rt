@@ -5,10 +5,10 @@ ghost use Rattle.icode.specs.Actions.{StepFits};
 ghost use Rattle.icode.specs.Limits.{is_op_within, is_stmt_within, is_body_within};
 ghost use Rattle.icode.specs.Plain.{plain_op, plain_stmt, plain_body};
 ghost use Rattle.icode.specs.Program.{plain_program, op_step};
-ghost use Rattle.word_code.specs.InPlace.InPlace.{may_go};
-ghost use Rattle.word_code.specs.InPlace.View.{span, IsTable, StmtFits, BodyFits, IsOpWithin};
-ghost use Rattle.word_code.specs.InPlace.View.{op_accesses, stmt_accesses, body_accesses, phase_accesses};
-ghost use Rattle.word_code.specs.InPlace.View.{Tells, HousesIf};
+ghost use Rattle.word_code.specs.InPlace.Sharing.{may_go};
+ghost use Rattle.word_code.specs.InPlace.Views.{span, IsTable, StmtFits, BodyFits, IsOpWithin};
+ghost use Rattle.word_code.specs.InPlace.Views.{op_accesses, stmt_accesses, body_accesses, phase_accesses};
+ghost use Rattle.word_code.specs.InPlace.Views.{Tells, HousesIf};
 
 use crate::in_place::homes::HomeTable;
 use crate::in_place::routes::Route;

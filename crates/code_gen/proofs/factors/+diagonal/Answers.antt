@@ -6,7 +6,7 @@ use Rattle.sigma_spl.specs.Nest.{factor_count, inner_of, spread}
 use Rattle.sigma_spl.specs.Views.{plain_factors}
 use Rattle.sigma_spl.specs.declared.nest.Factors.{Factors}
 use Rattle.code_gen.specs.Conditions.{CanList}
-use Rattle.operators.specs.TensorPaths.Path.{Path, size_under}
+use Rattle.operators.specs.Paths.Tensors.{Path, size_under}
 use Rattle.code_gen.proofs.Diagonals.{diagonal-size, spread-is, values-are}
 use Rattle.code_gen.proofs.factors.+diagonal.Goals as goal
 

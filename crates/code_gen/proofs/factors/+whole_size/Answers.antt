@@ -1,5 +1,5 @@
 use Rattle.std.proofs.Common.{ℕ, ◌*◌, sym, ap, ap₂, ◌∙◌}
-use Rattle.operators.specs.TensorPaths.Path.{Path, size_under}
+use Rattle.operators.specs.Paths.Tensors.{Path, size_under}
 use Rattle.code_gen.proofs.Diagonals.{grown-is}
 use Rattle.code_gen.proofs.factors.+whole_size.Goals as goal
 

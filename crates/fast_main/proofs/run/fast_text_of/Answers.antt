@@ -1,7 +1,7 @@
 use Rattle.std.proofs.Common.{sym, ap, ap₂, ◌∙◌, subst}
 use Rattle.icode.specs.Program.{plain_program}
-use Rattle.word_code.specs.Choice.{laziness_for}
-use Rattle.word_code.specs.View.{plain_word_program}
+use Rattle.word_code.specs.Laziness.{laziness_for}
+use Rattle.word_code.specs.Views.{plain_word_program}
 use Rattle.fast_text.specs.TextForm.{text_form}
 use Rattle.fast_text.specs.WordText.{words_text}
 use Rattle.code_check.specs.Marks.{is_fresh}

@@ -2,10 +2,10 @@ use Rattle.std.proofs.Common.{Err, ap}
 use Rattle.std.proofs.lemmas.Result.{err_from_is_err_and}
 use Rattle.io_edge.specs.Told.{IsOver}
 use Rattle.io_edge.specs.Feed.{to_come}
-use Rattle.fast_main.specs.FastWords.View.{plain_options}
+use Rattle.fast_main.specs.Options.Views.{plain_options}
 use Rattle.fast_main.proofs.Told.{first_fed, has_read, listing_ended, told_no_words, judged_refused, judged, told_unread}
 use Rattle.fast_main.proofs.Told.{told_refused, told_cut, told_whole, rest_is_no_usage}
-use Rattle.fast_main.specs.declared.fast_words.options.Refusal.TheVariants as refusal
+use Rattle.fast_main.specs.declared.options.asked.Refusal.TheVariants as refusal
 use Rattle.fast_main.proofs.run.work.Goals as goal
 
 pub returns-in_err-options-clause-told : goal.returns-in_err-options-clause-told

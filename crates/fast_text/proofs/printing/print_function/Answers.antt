@@ -1,6 +1,6 @@
 use Rattle.std.proofs.Common.{◌≡◌, ◌++◌, ℕ, List, length, ap, ◌∙◌, arith}
 use Rattle.std.proofs.lemmas.List.{length-map}
-use Rattle.word_code.specs.View.{plain_word_program}
+use Rattle.word_code.specs.Views.{plain_word_program}
 use Rattle.fast_text.specs.FirstValues.{first_values_text, callers_arrays_text}
 use Rattle.fast_text.specs.FunctionText.{static_phase_text, parameters_text, functions_to_link_text}
 use Rattle.fast_text.specs.WordText.{words_of_array, front_text, all_phases_text}

@@ -1,5 +1,5 @@
 use Rattle.std.proofs.Common.{◌≡◌, ◌++◌, ◌==◌, ℕ, List, ap, map, ◌∙◌}
-use Rattle.word_code.specs.View.{plain_word_program}
+use Rattle.word_code.specs.Views.{plain_word_program}
 use Rattle.fast_text.specs.FirstValues.{first_values_text, callers_arrays_text}
 use Rattle.fast_text.specs.FunctionText.{asked_text, capital, declared_functions_text, guard_text, linkage_text, word_type_text}
 use Rattle.fast_text.specs.WordText.{macros_text, word_header_text}

@@ -1,5 +1,5 @@
 use Rattle.std.proofs.Common.{List, ℕ, sym, subst}
-use Rattle.word_code.specs.View.{plain_word_program}
+use Rattle.word_code.specs.Views.{plain_word_program}
 use Rattle.fast_text.specs.TextForm.{text_form}
 use Rattle.fast_text.specs.WordTexts.{IsReadAs}
 use Rattle.fast_text.proofs.Nests.{spellable_nests}

@@ -1,6 +1,6 @@
 use Rattle.std.proofs.Common.{◌≡◌, ◌++◌, drop}
 use Rattle.std.specs.Prelude.{IsTrue}
-use Rattle.word_code.specs.View.{plain_word_body}
+use Rattle.word_code.specs.Views.{plain_word_body}
 use Rattle.fast_text.specs.WordText.{word_body_text}
 use Rattle.fast_text.specs.WordNests.{are_word_nests_within}
 use Rattle.fast_text.proofs.printing.put_body.Given as goal

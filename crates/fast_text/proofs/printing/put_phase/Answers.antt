@@ -1,6 +1,6 @@
 use Rattle.std.proofs.Common.{codes}
 use Rattle.std.proofs.lemmas.Result.{IfOk-equal}
-use Rattle.word_code.specs.View.{plain_word_body}
+use Rattle.word_code.specs.Views.{plain_word_body}
 use Rattle.fast_text.specs.FunctionText.{each_from}
 use Rattle.fast_text.specs.WordText.{declared_text, word_body_text}
 use Rattle.fast_text.proofs.Pieces.{three_pieces}

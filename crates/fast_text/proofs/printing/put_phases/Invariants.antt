@@ -1,6 +1,6 @@
 use Rattle.std.proofs.Common.{◌≡◌, ◌++◌, drop}
 use Rattle.std.specs.Prelude.{IsTrue}
-use Rattle.word_code.specs.View.{plain_word_phases, plain_word_program}
+use Rattle.word_code.specs.Views.{plain_word_phases, plain_word_program}
 use Rattle.fast_text.specs.WordText.{word_phases_text, all_phases_text}
 use Rattle.fast_text.specs.WordNests.{are_word_phases_within}
 use Rattle.fast_text.proofs.printing.put_phases.Given as goal

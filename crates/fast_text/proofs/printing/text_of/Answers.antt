@@ -1,5 +1,5 @@
 use Rattle.std.proofs.Common.{◌≡◌, IfOk, subst, sym}
-use Rattle.word_code.specs.View.{plain_word_program}
+use Rattle.word_code.specs.Views.{plain_word_program}
 use Rattle.fast_text.specs.TextForm.{text_form}
 use Rattle.fast_text.specs.WordText.{named_header_text, words_text}
 use Rattle.fast_text.proofs.printing.text_of.Goals as goal

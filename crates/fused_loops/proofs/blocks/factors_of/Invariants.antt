@@ -1,5 +1,5 @@
 use Rattle.std.proofs.Common.{◌≡◌, ◌++◌, drop}
-use Rattle.nests.specs.View.{plain_parts}
+use Rattle.nests.specs.Views.{plain_parts}
 use Rattle.fused_loops.specs.Blocks.{factors_of}
 use Rattle.fused_loops.proofs.blocks.factors_of.Given as goal
 

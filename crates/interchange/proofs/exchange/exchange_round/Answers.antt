@@ -1,6 +1,6 @@
 use Rattle.std.proofs.Common.{◌∙◌, sym, ap, arith, map}
 use Rattle.icode.specs.Plain.{plain_stmt, body_of}
-use Rattle.interchange.specs.View.{exchanged_stmt}
+use Rattle.interchange.specs.Views.{exchanged_stmt}
 use Rattle.nests.proofs.Items.{changed-more, changed-all}
 use Rattle.interchange.proofs.Sunk.{round-map}
 use Rattle.interchange.proofs.exchange.exchange_round.Goals as goal

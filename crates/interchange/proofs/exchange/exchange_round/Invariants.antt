@@ -1,5 +1,5 @@
 use Rattle.icode.specs.Plain.{plain_stmt}
-use Rattle.interchange.specs.View.{exchanged_stmt}
+use Rattle.interchange.specs.Views.{exchanged_stmt}
 use Rattle.nests.proofs.Items.{AreChanged}
 use Rattle.interchange.proofs.exchange.exchange_round.Given as goal
 

@@ -1,6 +1,6 @@
 use Rattle.std.proofs.Common.{◌+◌, arith}
 use Rattle.icode.specs.Plain.{Loop, plain_body}
-use Rattle.nests.specs.View.{one_loop}
+use Rattle.nests.specs.Views.{one_loop}
 use Rattle.nests.proofs.Counts.{others-counts}
 use Rattle.interchange.proofs.Sunk.{ordered-alone, ordered-loops, ordered-deeper}
 use Rattle.interchange.proofs.orders.+ordering.Goals as goal

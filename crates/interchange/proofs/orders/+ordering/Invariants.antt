@@ -1,6 +1,6 @@
 use Rattle.std.specs.Prelude.{◌+◌, ◌*◌}
 use Rattle.icode.specs.Plain.{NoStmts, AndStmts, plain_stmt, plain_body}
-use Rattle.nests.specs.View.{loops_in}
+use Rattle.nests.specs.Views.{loops_in}
 use Rattle.interchange.proofs.orders.+ordering.Given as goal
 
 abbrev pub decreases-order_both : goal.decreases-order_both

@@ -2,7 +2,7 @@ use Rattle.std.proofs.Common.{◌≡◌, ◌∙◌, sym, ap, arith}
 use Rattle.icode.specs.Plain.{plain_body}
 use Rattle.interchange.specs.Interchanged.{steps_less}
 use Rattle.nests.specs.Rounds.{first_load}
-use Rattle.nests.specs.View.{loops_in}
+use Rattle.nests.specs.Views.{loops_in}
 use Rattle.nests.proofs.Counts.{others-counts}
 use Rattle.interchange.proofs.Sunk.{sunk-alone, sunk-stays, sunk-swapped, loops-exchanged}
 use Rattle.interchange.proofs.orders.+sinking.Goals as goal

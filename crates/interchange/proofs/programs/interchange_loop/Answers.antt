@@ -1,7 +1,7 @@
 use Rattle.std.proofs.Common.{◌∙◌, sym, ap}
 use Rattle.icode.specs.Plain.{plain_body}
 use Rattle.nests.specs.Rounds.{first_store}
-use Rattle.nests.specs.View.{are_independent_in}
+use Rattle.nests.specs.Views.{are_independent_in}
 use Rattle.interchange.proofs.Sunk.{nest-ordered, nest-stays}
 use Rattle.interchange.proofs.programs.interchange_loop.Goals as goal
 

@@ -1,8 +1,8 @@
 use Rattle.std.proofs.Common.{◌≡◌, drop}
 use Rattle.std.specs.List.{list_all}
-use Rattle.nests.specs.View.{stored_into}
+use Rattle.nests.specs.Views.{stored_into}
 use Rattle.loop_lanes.specs.Rows.{is_by_lane}
-use Rattle.loop_lanes.specs.View.{plain_ops}
+use Rattle.loop_lanes.specs.Views.{plain_ops}
 use Rattle.loop_lanes.proofs.columns.are_ops_by_lane.Given as goal
 
 abbrev pub invariant-loop-op : goal.invariant-loop-op

@@ -1,6 +1,6 @@
 use Rattle.std.proofs.Common.{◌≡◌, drop}
 use Rattle.loop_lanes.specs.Columns.{are_products}
-use Rattle.loop_lanes.specs.View.{plain_factors, plain_ops}
+use Rattle.loop_lanes.specs.Views.{plain_factors, plain_ops}
 use Rattle.loop_lanes.proofs.columns.are_products.Given as goal
 
 abbrev pub invariant-loop-op : goal.invariant-loop-op

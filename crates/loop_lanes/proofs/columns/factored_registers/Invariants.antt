@@ -1,6 +1,6 @@
 use Rattle.std.proofs.Common.{◌≡◌, ◌++◌, drop}
 use Rattle.loop_lanes.specs.Columns.{factored_registers}
-use Rattle.loop_lanes.specs.View.{plain_ops}
+use Rattle.loop_lanes.specs.Views.{plain_ops}
 use Rattle.loop_lanes.proofs.columns.factored_registers.Given as goal
 
 abbrev pub invariant-loop-op : goal.invariant-loop-op

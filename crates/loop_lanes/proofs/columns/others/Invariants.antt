@@ -2,7 +2,7 @@ use Rattle.std.proofs.Common.{◌≡◌, ◌++◌, drop}
 use Rattle.icode.specs.Plain.{plain_body}
 use Rattle.nests.specs.Rounds.{ops_in}
 use Rattle.loop_lanes.specs.Rows.{others}
-use Rattle.loop_lanes.specs.View.{plain_ops}
+use Rattle.loop_lanes.specs.Views.{plain_ops}
 use Rattle.loop_lanes.proofs.columns.others.Given as goal
 
 abbrev pub invariant-loop-stmt : goal.invariant-loop-stmt

@@ -3,7 +3,7 @@ use Rattle.std.specs.List.{list_all}
 use Rattle.icode.specs.Limits.{are_phases_within}
 use Rattle.icode.specs.Plain.{PlainBody, plain_phases}
 use Rattle.loop_lanes.specs.Lanes.{are_lanable, laned_body}
-use Rattle.loop_lanes.specs.View.{phases_if, phases_made}
+use Rattle.loop_lanes.specs.Views.{phases_if, phases_made}
 use Rattle.loop_lanes.proofs.Choices.{made_if}
 use Rattle.loop_lanes.proofs.Limited.{header-within, phases-within}
 use Rattle.loop_lanes.proofs.lanes.lane_loops.Goals as goal

@@ -1,5 +1,5 @@
 use Rattle.std.proofs.Common.{◌*◌, []}
-use Rattle.loop_lanes.specs.View.{plain_ops, load_tile_of}
+use Rattle.loop_lanes.specs.Views.{plain_ops, load_tile_of}
 use Rattle.loop_lanes.proofs.Made.{grown}
 use Rattle.loop_lanes.proofs.loads.load_tiles.Goals as goal
 

@@ -1,6 +1,6 @@
 use Rattle.std.proofs.Common.{◌≡◌, ◌*◌, flat_map}
 use Rattle.std.specs.List.{range_with_len}
-use Rattle.loop_lanes.specs.View.{plain_ops, load_tile_of}
+use Rattle.loop_lanes.specs.Views.{plain_ops, load_tile_of}
 use Rattle.loop_lanes.proofs.loads.load_tiles.Given as goal
 
 abbrev pub invariant-loop-tile : goal.invariant-loop-tile

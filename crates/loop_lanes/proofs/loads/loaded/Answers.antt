@@ -2,11 +2,11 @@ use Rattle.std.proofs.Common.{◌≡◌, true, length, sym, ◌∙◌, subst}
 use Rattle.std.specs.List.{list_all}
 use Rattle.icode.specs.Plain.{plain_body}
 use Rattle.nests.specs.Places.{stride}
-use Rattle.nests.specs.View.{plain_parts}
+use Rattle.nests.specs.Views.{plain_parts}
 use Rattle.loop_lanes.specs.Columns.{Columns}
 use Rattle.nests.specs.Rounds.{ops_in}
 use Rattle.loop_lanes.specs.Rows.{is_by_lane}
-use Rattle.loop_lanes.specs.View.{columns_of, stored_reference, has_words}
+use Rattle.loop_lanes.specs.Views.{columns_of, stored_reference, has_words}
 use Rattle.loop_lanes.proofs.LoadsMade.{behind_told}
 use Rattle.loop_lanes.proofs.loads.loaded.Goals as goal
 

@@ -1,4 +1,4 @@
-use Rattle.loop_lanes.specs.View.{plain_ops, load_of}
+use Rattle.loop_lanes.specs.Views.{plain_ops, load_of}
 use Rattle.loop_lanes.proofs.LoadsMade.{item_more}
 use Rattle.loop_lanes.proofs.loads.push_load_tile.Goals as goal
 

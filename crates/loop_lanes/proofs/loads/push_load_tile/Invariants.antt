@@ -1,6 +1,6 @@
 use Rattle.std.proofs.Common.{◌≡◌, ◌++◌, map}
 use Rattle.std.specs.List.{range_with_len}
-use Rattle.loop_lanes.specs.View.{plain_ops, load_of}
+use Rattle.loop_lanes.specs.Views.{plain_ops, load_of}
 use Rattle.loop_lanes.proofs.loads.push_load_tile.Given as goal
 
 abbrev pub invariant-loop-lane : goal.invariant-loop-lane

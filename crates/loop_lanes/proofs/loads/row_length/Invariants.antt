@@ -1,6 +1,6 @@
 use Rattle.std.proofs.Common.{◌≡◌, ◌+◌, drop}
 use Rattle.loop_lanes.specs.Loads.{row_length}
-use Rattle.loop_lanes.specs.View.{plain_ops, stored_reference}
+use Rattle.loop_lanes.specs.Views.{plain_ops, stored_reference}
 use Rattle.loop_lanes.proofs.loads.row_length.Given as goal
 
 abbrev pub invariant-loop-op : goal.invariant-loop-op

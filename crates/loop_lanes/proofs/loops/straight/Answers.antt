@@ -1,6 +1,6 @@
 use Rattle.std.proofs.Common.{◌∙◌, refl, sym, ap, arith, List}
 use Rattle.icode.specs.Plain.{plain_stmt, Do, body_of}
-use Rattle.loop_lanes.specs.View.{plain_ops}
+use Rattle.loop_lanes.specs.Views.{plain_ops}
 use Rattle.nests.proofs.Straight.{straight_is, whole}
 use Rattle.loop_lanes.proofs.loops.straight.Goals as goal
 use Rattle.std.specs.Prelude.{map}

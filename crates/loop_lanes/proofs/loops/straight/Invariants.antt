@@ -1,6 +1,6 @@
 use Rattle.std.proofs.Common.{◌≡◌, ◌++◌, map, drop}
 use Rattle.icode.specs.Plain.{plain_stmt, Do}
-use Rattle.loop_lanes.specs.View.{plain_ops}
+use Rattle.loop_lanes.specs.Views.{plain_ops}
 use Rattle.loop_lanes.proofs.loops.straight.Given as goal
 
 abbrev pub invariant-loop-op : goal.invariant-loop-op

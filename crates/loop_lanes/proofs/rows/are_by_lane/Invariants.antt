@@ -1,7 +1,7 @@
 use Rattle.std.proofs.Common.{◌≡◌, drop}
 use Rattle.std.specs.List.{list_all}
 use Rattle.icode.specs.Plain.{plain_body}
-use Rattle.nests.specs.View.{stored_into}
+use Rattle.nests.specs.Views.{stored_into}
 use Rattle.loop_lanes.specs.Rows.{is_by_lane}
 use Rattle.nests.specs.Rounds.{ops_in}
 use Rattle.loop_lanes.proofs.rows.are_by_lane.Given as goal

@@ -1,4 +1,4 @@
-use Rattle.loop_lanes.specs.View.{stored_reference}
+use Rattle.loop_lanes.specs.Views.{stored_reference}
 use Rattle.loop_lanes.proofs.Made.{narrow_first}
 use Rattle.loop_lanes.proofs.tiles.front_ops.Goals as goal
 

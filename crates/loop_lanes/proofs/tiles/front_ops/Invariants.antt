@@ -1,8 +1,8 @@
 use Rattle.std.proofs.Common.{◌≡◌, ◌++◌, true, drop}
 use Rattle.std.specs.List.{list_all}
-use Rattle.nests.specs.View.{stored_into}
+use Rattle.nests.specs.Views.{stored_into}
 use Rattle.loop_lanes.specs.Rows.{is_by_lane}
-use Rattle.loop_lanes.specs.View.{plain_ops, laned_front}
+use Rattle.loop_lanes.specs.Views.{plain_ops, laned_front}
 use Rattle.loop_lanes.proofs.tiles.front_ops.Given as goal
 
 abbrev pub invariant-loop-op : goal.invariant-loop-op

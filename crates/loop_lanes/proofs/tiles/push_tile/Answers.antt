@@ -1,6 +1,6 @@
 use Rattle.std.proofs.Common.{[], ◌∷◌}
 use Rattle.icode.specs.Plain.{Tile}
-use Rattle.loop_lanes.specs.View.{plain_ops, row_of}
+use Rattle.loop_lanes.specs.Views.{plain_ops, row_of}
 use Rattle.loop_lanes.proofs.Made.{grown}
 use Rattle.loop_lanes.proofs.tiles.push_tile.Goals as goal
 

@@ -1,7 +1,7 @@
 use Rattle.std.proofs.Common.{◌≡◌, ◌++◌, ◌∷◌, flat_map}
 use Rattle.std.specs.List.{range_with_len}
 use Rattle.icode.specs.Plain.{Tile}
-use Rattle.loop_lanes.specs.View.{plain_ops, row_of}
+use Rattle.loop_lanes.specs.Views.{plain_ops, row_of}
 use Rattle.loop_lanes.proofs.tiles.push_tile.Given as goal
 
 abbrev pub invariant-loop-lane : goal.invariant-loop-lane

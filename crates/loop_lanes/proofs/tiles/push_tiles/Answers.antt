@@ -1,5 +1,5 @@
 use Rattle.std.proofs.Common.{[]}
-use Rattle.loop_lanes.specs.View.{plain_ops, tile_number}
+use Rattle.loop_lanes.specs.Views.{plain_ops, tile_number}
 use Rattle.loop_lanes.proofs.Made.{grown}
 use Rattle.loop_lanes.proofs.tiles.push_tiles.Goals as goal
 

@@ -4,7 +4,7 @@ use Rattle.loop_nests.specs.Views.{plain_pass}
 use Rattle.loop_merge.proofs.Waiting.{copies_left, copies_took}
 use Rattle.index_fn.specs.Index.{mapping_of}
 use Rattle.sigma_spl.specs.Views.{plain_nest}
-use Rattle.loop_nests.specs.PassPlaces.Known.{AreSteps, IsKnownPass}
+use Rattle.loop_nests.specs.Places.Known.{AreSteps, IsKnownPass}
 use Rattle.loop_merge.proofs.Readies.{known-by, known-more}
 use Rattle.loop_nests.proofs.Standing.{last_waits}
 use Rattle.loop_merge.proofs.copies.+copies_before.Goals as goal

@@ -4,7 +4,7 @@ use Rattle.loop_nests.specs.Views.{plain_pass}
 use Rattle.loop_merge.proofs.Waiting.{pass_left, pass_took}
 use Rattle.index_fn.specs.Index.{mapping_of}
 use Rattle.sigma_spl.specs.Views.{plain_nest}
-use Rattle.loop_nests.specs.PassPlaces.Known.{AreSteps}
+use Rattle.loop_nests.specs.Places.Known.{AreSteps}
 use Rattle.loop_merge.proofs.Readies.{known-more}
 use Rattle.loop_nests.proofs.Standing.{last_waits}
 use Rattle.loop_merge.proofs.copies.+taken.Goals as goal

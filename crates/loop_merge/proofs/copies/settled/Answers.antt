@@ -1,8 +1,8 @@
 use Rattle.std.proofs.Common.{sym, ap, ◌∙◌, subst}
 use Rattle.sigma_spl.specs.Merge.{copies_before, most, settled}
-use Rattle.loop_nests.specs.PassPlaces.Views.{waiting_of}
+use Rattle.loop_nests.specs.Places.Views.{waiting_of}
 use Rattle.index_fn.specs.Index.{mapping_of}
-use Rattle.loop_nests.specs.PassPlaces.Known.{AreSteps, IsKnownPass}
+use Rattle.loop_nests.specs.Places.Known.{AreSteps, IsKnownPass}
 use Rattle.loop_merge.proofs.Readies.{known-by}
 use Rattle.loop_nests.proofs.Standing.{last_waits}
 use Rattle.loop_merge.proofs.copies.settled.Goals as goal

@@ -1,7 +1,7 @@
 use Rattle.std.proofs.Common.{sym, ap, ◌∙◌, subst}
 use Rattle.sigma_spl.specs.Merge.{ended, most}
-use Rattle.loop_nests.specs.PassPlaces.Known.{AreSteps}
-use Rattle.loop_nests.specs.PassPlaces.Views.{mappings_of}
+use Rattle.loop_nests.specs.Places.Known.{AreSteps}
+use Rattle.loop_nests.specs.Places.Views.{mappings_of}
 use Rattle.loop_nests.specs.Views.{from_last}
 use Rattle.loop_merge.proofs.Waiting.{from_waiting, steps_turned}
 use Rattle.loop_merge.proofs.merging.finished.Goals as goal

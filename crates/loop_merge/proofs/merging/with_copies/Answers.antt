@@ -2,7 +2,7 @@ use Rattle.std.proofs.Common.{sym, ap, ◌∙◌, subst, ◌<◌, ◌∷◌, []}
 use Rattle.sigma_spl.specs.Views.{plain_work}
 use Rattle.sigma_spl.specs.Work.{work_size}
 use Rattle.sigma_spl.proofs.Keeps.{inner_positive}
-use Rattle.loop_nests.specs.PassPlaces.Known.{IsKnownPass}
+use Rattle.loop_nests.specs.Places.Known.{IsKnownPass}
 use Rattle.loop_merge.proofs.States.{known-nest}
 use Rattle.loop_merge.proofs.merging.with_copies.Goals as goal
 

@@ -1,6 +1,6 @@
 use Rattle.std.proofs.Common.{sym, ap, ◌∙◌, subst, ◌<◌, ◌∷◌, [], length}
 use Rattle.sigma_spl.proofs.Keeps.{inner_positive}
-use Rattle.loop_nests.specs.PassPlaces.Known.{IsKnownPass}
+use Rattle.loop_nests.specs.Places.Known.{IsKnownPass}
 use Rattle.loop_merge.proofs.States.{known-move}
 use Rattle.loop_merge.proofs.merging.with_moved.Goals as goal
 

@@ -1,6 +1,6 @@
 use Rattle.std.proofs.Common.{rules, ◌≡◌, sym, subst}
 use Rattle.sigma_spl.specs.Merge.{Merging}
-use Rattle.loop_nests.specs.PassPlaces.Known.{AreSteps}
+use Rattle.loop_nests.specs.Places.Known.{AreSteps}
 use Rattle.loop_merge.specs.Known.{AreKnownPasses}
 use Rattle.loop_nests.specs.Views.{from_last, plain_passes}
 use Rattle.loop_merge.specs.Views.{plain_merging}

@@ -1,8 +1,8 @@
 use Rattle.std.proofs.Common.{sym, ap, ap₂, ◌∙◌, map}
 use Rattle.sigma_spl.specs.Merge.{multiplied}
 use Rattle.sigma_spl.specs.Views.{plain_factors, plain_nest}
-use Rattle.loop_nests.specs.PassPlaces.Multiplied.{functions_of}
-use Rattle.loop_nests.specs.PassPlaces.Views.{waiting_of}
+use Rattle.loop_nests.specs.Places.Multiplied.{functions_of}
+use Rattle.loop_nests.specs.Places.Views.{waiting_of}
 use Rattle.loop_merge.specs.Taken.{takes_diagonal}
 use Rattle.loop_merge.proofs.Diagonals.{last_leaves, last_takes}
 use Rattle.loop_merge.proofs.multiplying.multiplied_last.Goals as goal

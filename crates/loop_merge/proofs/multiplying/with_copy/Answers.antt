@@ -2,8 +2,8 @@ use Rattle.std.proofs.Common.{rules, ◌≡◌, sym, ap, ◌∙◌, [], map}
 use Rattle.sigma_spl.specs.Merge.{can_multiply, most, multiplied, settled}
 use Rattle.sigma_spl.specs.Nest.{spread}
 use Rattle.sigma_spl.specs.Views.{plain_factors, plain_nest}
-use Rattle.loop_nests.specs.PassPlaces.Multiplied.{functions_of}
-use Rattle.loop_nests.specs.PassPlaces.Views.{waiting_of}
+use Rattle.loop_nests.specs.Places.Multiplied.{functions_of}
+use Rattle.loop_nests.specs.Places.Views.{waiting_of}
 use Rattle.loop_merge.proofs.Diagonals.{copy_leaves, copy_takes}
 use Rattle.loop_merge.proofs.multiplying.with_copy.Goals as goal
 

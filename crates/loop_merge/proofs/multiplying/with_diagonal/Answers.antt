@@ -1,10 +1,10 @@
 use Rattle.std.proofs.Common.{sym, ap₂, ◌∙◌, subst, arith, ◌<◌}
 use Rattle.sigma_spl.specs.Merge.{factor_places}
 use Rattle.sigma_spl.specs.Views.{plain_factors}
-use Rattle.loop_nests.specs.PassPlaces.Known.{AreSteps}
-use Rattle.loop_nests.specs.SumLimits.Leading.{CanCarry}
-use Rattle.loop_nests.specs.PassPlaces.Views.{waiting_of}
-use Rattle.loop_nests.proofs.PassPlaces.Carries.{carry-places}
+use Rattle.loop_nests.specs.Places.Known.{AreSteps}
+use Rattle.loop_nests.specs.Limits.Leading.{CanCarry}
+use Rattle.loop_nests.specs.Places.Views.{waiting_of}
+use Rattle.loop_nests.proofs.Places.Carries.{carry-places}
 use Rattle.sigma_spl.proofs.Fitting.{has_count}
 use Rattle.loop_merge.proofs.Readies.{low}
 use Rattle.loop_merge.proofs.multiplying.with_diagonal.Goals as goal

@@ -3,7 +3,7 @@ use Rattle.index_fn.specs.Index.{mapping_of}
 use Rattle.sigma_spl.specs.Merge.{back_of, most}
 use Rattle.sigma_spl.specs.Views.{plain_nest}
 use Rattle.loop_merge.specs.Known.{AreKnownPasses}
-use Rattle.loop_nests.specs.PassPlaces.Known.{AreSteps}
+use Rattle.loop_nests.specs.Places.Known.{AreSteps}
 use Rattle.loop_nests.proofs.Standing.{last_first}
 use Rattle.loop_merge.proofs.Readies.{known-stores}
 use Rattle.loop_merge.proofs.Waiting.{last_goes, last_left, none_left, steps_wait}

@@ -1,6 +1,6 @@
 use Rattle.std.proofs.Common.{◌≡◌, subst, true, false}
 use Rattle.sigma_spl.specs.Merge.{can_scatter, most, scattered}
-use Rattle.loop_nests.specs.PassPlaces.Changes.{ForMade, ForRefused}
+use Rattle.loop_nests.specs.Places.Changes.{ForMade, ForRefused}
 use Rattle.loop_nests.specs.Views.{plain_pass}
 use Rattle.loop_merge.proofs.steps.scattered_back.Goals as goal
 

@@ -1,7 +1,7 @@
 use Rattle.std.proofs.Common.{ap}
 use Rattle.index_fn.specs.Index.{mapping_of}
 use Rattle.sigma_spl.specs.Merge.{most}
-use Rattle.loop_nests.specs.PassPlaces.Views.{waiting_of}
+use Rattle.loop_nests.specs.Places.Views.{waiting_of}
 use Rattle.loop_merge.specs.Views.{plain_merging}
 use Rattle.loop_merge.proofs.Waiting.{scatter_goes, scatter_waits}
 use Rattle.loop_merge.proofs.steps.scattered_last.Goals as goal

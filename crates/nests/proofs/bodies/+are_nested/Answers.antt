@@ -1,7 +1,7 @@
 use Rattle.std.proofs.Common.{◌*◌, ◌∙◌, sym, ap}
 use Rattle.std.proofs.lemmas.Bool.{lt-leb}
 use Rattle.icode.specs.Plain.{plain_body}
-use Rattle.nests.specs.View.{plain_parts, one_loop}
+use Rattle.nests.specs.Views.{plain_parts, one_loop}
 use Rattle.nests.proofs.Counts.{others-counts, op-counts, loop-seen, nested-alone, nested-loop, nested-not}
 use Rattle.nests.proofs.bodies.+are_nested.Goals as goal
 

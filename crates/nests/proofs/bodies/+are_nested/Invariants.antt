@@ -1,5 +1,5 @@
 use Rattle.icode.specs.Plain.{plain_body}
-use Rattle.nests.specs.View.{loops_in}
+use Rattle.nests.specs.Views.{loops_in}
 use Rattle.nests.proofs.bodies.+are_nested.Given as goal
 
 abbrev pub decreases-are_nested : goal.decreases-are_nested

@@ -1,5 +1,5 @@
 use Rattle.icode.specs.Plain.{plain_body}
-use Rattle.nests.specs.View.{loops_in}
+use Rattle.nests.specs.Views.{loops_in}
 use Rattle.nests.proofs.bodies.+innermost.Given as goal
 
 abbrev pub decreases-innermost : goal.decreases-innermost

@@ -1,6 +1,6 @@
 use Rattle.std.proofs.Common.{◌+◌, ◌∙◌, sym, ap}
 use Rattle.icode.specs.Plain.{plain_body}
-use Rattle.nests.specs.View.{plain_parts, last_stride_in}
+use Rattle.nests.specs.Views.{plain_parts, last_stride_in}
 use Rattle.nests.proofs.Counts.{others-counts, op-counts, loop-seen, last-alone}
 use Rattle.nests.proofs.bodies.+last_stride.Goals as goal
 

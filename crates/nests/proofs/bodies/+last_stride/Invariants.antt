@@ -1,5 +1,5 @@
 use Rattle.icode.specs.Plain.{plain_body}
-use Rattle.nests.specs.View.{loops_in}
+use Rattle.nests.specs.Views.{loops_in}
 use Rattle.nests.proofs.bodies.+last_stride.Given as goal
 
 abbrev pub decreases-last_stride : goal.decreases-last_stride

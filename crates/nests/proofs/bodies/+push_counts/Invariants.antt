@@ -1,5 +1,5 @@
 use Rattle.icode.specs.Plain.{plain_body}
-use Rattle.nests.specs.View.{loops_in}
+use Rattle.nests.specs.Views.{loops_in}
 use Rattle.nests.proofs.bodies.+push_counts.Given as goal
 
 abbrev pub decreases-push_counts : goal.decreases-push_counts

@@ -1,7 +1,7 @@
 use Rattle.std.proofs.Common.{◌≡◌, drop}
 use Rattle.icode.specs.Plain.{plain_body}
 use Rattle.nests.specs.Rounds.{are_placed}
-use Rattle.nests.specs.View.{stored_into}
+use Rattle.nests.specs.Views.{stored_into}
 use Rattle.nests.proofs.independence.are_placed.Given as goal
 
 abbrev pub invariant-loop-stmt : goal.invariant-loop-stmt

@@ -9,8 +9,8 @@ use Rattle.par_machine.proofs.perform.perform_on_registers.Goals as goal
 
 pub scale_by_entries-requires-clause-factors : goal.scale_by_entries-requires-clause-factors
 scale_by_entries-requires-clause-factors c =
-    let shape = c.args.engine.now.shape in
-    let tables = c.args.engine.now.tables.items in
+    let shape = c.args.header.now.shape in
+    let tables = c.args.header.now.tables.items in
     let entries = slice_index_or (plain_tables tables) c.in-MulTable.table [] in
     let at = (sum_numbers (plain_expr c.in-MulTable.place) c.args.values.now c.args.proc).value in
     let step = c.in-MulTable.step in
@@ -22,5 +22,5 @@ scale_by_entries-requires-clause-factors c =
 
 pub transpose-requires-clause-apart : goal.transpose-requires-clause-apart
 transpose-requires-clause-apart c =
-    let shape = c.args.engine.now.shape in
+    let shape = c.args.header.now.shape in
     tile_words shape.lanes c.in-Tile.register c.in-Tile.source shape.regs (rw c.in-Tile.is at c.requires.fits.registers)

@@ -6,7 +6,7 @@ use Rattle.std.proofs.lemmas.List.{drop_all, map-append}
 use Rattle.icode.specs.declared.program.Stmt.{Stmt, the_lemmas}
 use Rattle.icode.specs.Plain.{PlainBody, plain_stmt, plain_body}
 use Rattle.renumbered_registers.specs.Renumbered.{Numbering, numbered_stmt, numbered_body, most_put}
-use Rattle.renumbered_registers.specs.View.{plain_numbering}
+use Rattle.renumbered_registers.specs.Views.{plain_numbering}
 use Rattle.renumbered_registers.proofs.Steps.{front, first_stmt, stmt_room, rest_room, one_more_stmt, all_stmts}
 use Rattle.renumbered_registers.proofs.programs.+numbered.Goals as goal
 

@@ -1,7 +1,7 @@
 use Rattle.std.proofs.Common.{◌≡◌, ◌<◌, ◌^◌, drop, map}
 use Rattle.icode.specs.Plain.{plain_stmt, plain_body}
 use Rattle.renumbered_registers.specs.Renumbered.{no_numbers, numbered_body, most_put}
-use Rattle.renumbered_registers.specs.View.{plain_numbering}
+use Rattle.renumbered_registers.specs.Views.{plain_numbering}
 use Rattle.renumbered_registers.proofs.Steps.{front}
 use Rattle.renumbered_registers.proofs.programs.+numbered.Given as goal
 

@@ -1,7 +1,7 @@
 use Rattle.std.proofs.Common.{◌≡◌, ◌≤◌, ◌^◌, Some, sym, ap, ◌∙◌, arith}
 use Rattle.icode.specs.Plain.{plain_phases}
 use Rattle.renumbered_registers.specs.Renumbered.{numbered_phases, registers_for}
-use Rattle.renumbered_registers.specs.View.{phases_made}
+use Rattle.renumbered_registers.specs.Views.{phases_made}
 use Rattle.renumbered_registers.proofs.Within.{phases-within}
 use Rattle.renumbered_registers.proofs.programs.renumber_registers.Goals as goal
 

@@ -6,8 +6,8 @@ use Rattle.sigma_lower.specs.TreeLoops.Merge.{diagonal_place}
 use Rattle.sigma_lower.specs.TreeLoops.Merge.{PlainPass, PlainDiagonal, gather_place, scatter_place}
 use Rattle.sigma_spl.specs.Work.{PlainWork, kernel, rows, horner, tile, copy, work_size, vectors_of}
 use Rattle.smp_rewrite.specs.Smp.{within}
-use Rattle.operators.specs.declared.tensor_paths.Tensor.TheVariants.{Blocks, Columns}
-use Rattle.operators.specs.TensorPaths.Path.{Path, AreInRange}
+use Rattle.operators.specs.declared.paths.Tensor.TheVariants.{Blocks, Columns}
+use Rattle.operators.specs.Paths.Tensors.{Path, AreInRange}
 use Rattle.operators.specs.declared.target.Target.{Target}
 
 -- the tensors of the processors and lanes, round those of the loops

@@ -1,5 +1,5 @@
 use Rattle.std.specs.Prelude.{◌≡◌, map, take}
-use Rattle.operators.specs.TensorPaths.Path.{count_of}
+use Rattle.operators.specs.Paths.Tensors.{count_of}
 use Rattle.sigma_spl.proofs.variables.counts.Given as goal
 
 abbrev pub invariant-loop-tensor : goal.invariant-loop-tensor

@@ -1,6 +1,6 @@
 use Rattle.std.proofs.Common.{ap, ◌∙◌, sym, subst}
 use Rattle.spl_ast.specs.Shape.{IsShaped}
-use Rattle.spl_ast.specs.View.{formula_of}
+use Rattle.spl_ast.specs.Views.{formula_of}
 use Rattle.spl_ast.proofs.Contexts.{rewrites_left, rewrites_right, rewrites_product, rewrites_sum}
 use Rattle.spl_ast.proofs.rewriting.+rewrite.Goals as goal
 

@@ -1,6 +1,6 @@
 use Rattle.std.proofs.Common.{length, sym, ◌∙◌}
 use Rattle.two_tables.specs.Factors.{is_product_at}
-use Rattle.two_tables.specs.View.{plain_cut}
+use Rattle.two_tables.specs.Views.{plain_cut}
 use Rattle.two_tables.proofs.Cutting.{range_more}
 use Rattle.two_tables.proofs.factors.are_products.Goals as goal
 

@@ -1,7 +1,7 @@
 use Rattle.std.proofs.Common.{◌≡◌, ◌-◌, length}
 use Rattle.std.specs.List.{list_all, range_with_len}
 use Rattle.two_tables.specs.Factors.{is_product_at}
-use Rattle.two_tables.specs.View.{plain_cut}
+use Rattle.two_tables.specs.Views.{plain_cut}
 use Rattle.two_tables.proofs.factors.are_products.Given as goal
 
 abbrev pub invariant-loop-at : goal.invariant-loop-at

@@ -3,7 +3,7 @@ use Rattle.icode.specs.declared.program.Stmt.{Stmt}
 use Rattle.icode.specs.Plain.{Loop, plain_stmt, plain_body}
 use Rattle.icode.proofs.Views.{plain_stmt-Loop}
 use Rattle.two_tables.specs.Factored.{factored_body}
-use Rattle.two_tables.specs.View.{plain_split}
+use Rattle.two_tables.specs.Views.{plain_split}
 use Rattle.two_tables.proofs.Pushed.{body-pushed, loop-pushed}
 use Rattle.two_tables.proofs.split.+push_stmt.Goals as goal
 

@@ -1,6 +1,6 @@
 use Rattle.std.proofs.Common.{◌≡◌, take, flat_map}
 use Rattle.two_tables.specs.Factored.{factored_stmt}
-use Rattle.two_tables.specs.View.{plain_split, plain_stmts}
+use Rattle.two_tables.specs.Views.{plain_split, plain_stmts}
 use Rattle.two_tables.proofs.split.+push_stmt.Given as goal
 
 abbrev pub decreases-push_stmt : goal.decreases-push_stmt

@@ -1,5 +1,5 @@
 use Rattle.std.proofs.Common.{arith}
-use Rattle.two_tables.specs.View.{plain_split}
+use Rattle.two_tables.specs.Views.{plain_split}
 use Rattle.two_tables.proofs.Pushed.{body-pushed}
 use Rattle.two_tables.proofs.split.split_body.Goals as goal
 

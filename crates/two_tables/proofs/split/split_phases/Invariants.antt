@@ -1,7 +1,7 @@
 use Rattle.std.proofs.Common.{◌≡◌, take, map}
 use Rattle.icode.specs.Plain.{plain_phases}
 use Rattle.two_tables.specs.Factored.{factored_body}
-use Rattle.two_tables.specs.View.{plain_split}
+use Rattle.two_tables.specs.Views.{plain_split}
 use Rattle.two_tables.proofs.split.split_phases.Given as goal
 
 abbrev pub invariant-loop-body : goal.invariant-loop-body

@@ -1,7 +1,7 @@
 use Rattle.std.proofs.Common.{ap, sym, ◌∙◌}
 use Rattle.icode.specs.Program.{plain_program}
 use Rattle.two_tables.specs.Factors.{cut_of, first_factor, second_factor}
-use Rattle.two_tables.specs.View.{plain_cut}
+use Rattle.two_tables.specs.Views.{plain_cut}
 use Rattle.two_tables.proofs.Programs.{may_not, is_no_product, is_product, may_can, some_width, tested}
 use Rattle.two_tables.proofs.tables.factor_table.Goals as goal
 

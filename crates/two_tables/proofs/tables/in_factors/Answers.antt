@@ -1,5 +1,5 @@
 use Rattle.std.proofs.Common.{arith}
-use Rattle.two_tables.specs.View.{plain_cut}
+use Rattle.two_tables.specs.Views.{plain_cut}
 use Rattle.two_tables.proofs.Programs.{is_made, program_made}
 use Rattle.two_tables.proofs.tables.in_factors.Goals as goal
 

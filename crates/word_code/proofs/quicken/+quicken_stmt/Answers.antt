@@ -7,7 +7,7 @@ use Rattle.icode.proofs.Views.{plain_stmt-Loop}
 use Rattle.code_check.proofs.Walking.{within_loop}
 use Rattle.word_code.specs.Quicken.{loosest, quick_stmt, quick_body}
 use Rattle.word_code.specs.Setting.{AreBoundsWithin, header_in}
-use Rattle.word_code.specs.View.{lazy_of}
+use Rattle.word_code.specs.Views.{lazy_of}
 use Rattle.word_code.proofs.Emitting.{made-more, loop_made, stmt_sane}
 use Rattle.word_code.proofs.quicken.+quicken_stmt.Goals as goal
 use Rattle.nests.proofs.Limited.{item-within}
@@ -30,7 +30,7 @@ quicken_stmt-requires t c =
 
 pub loop-inner-preserved : goal.loop-inner-preserved
 loop-inner-preserved t c =
-    let z = lazy_of c.args.setting.slack in
+    let z = lazy_of c.args.setting.laziness in
     let h = header_in c.args.setting in
     let ends = c.in_ok-inner-in-Loop.ensures.after in
     record {
@@ -50,7 +50,7 @@ loop-inner-preserved t c =
 
 pub returns-after-loop-inner-clause-stmt : goal.returns-after-loop-inner-clause-stmt
 returns-after-loop-inner-clause-stmt t c =
-    let z = lazy_of c.args.setting.slack in
+    let z = lazy_of c.args.setting.laziness in
     let h = header_in c.args.setting in
     let is : plain_stmt c.args.stmt.now ≡ Loop c.in-Loop.count (plain_body c.in-Loop.body.items) = ap plain_stmt c.in-Loop.is ∙ plain_stmt-Loop c.in-Loop.count c.in-Loop.body in
     loop_made z h c.in-Loop.count c.loop-inner.inner-index c.in-Loop.body.items c.deref-inner-items.result.now

@@ -2,7 +2,7 @@ use Rattle.std.proofs.Common.{refl, ap, subst, sym, ◌∙◌, arith}
 use Rattle.icode.specs.Plain.{plain_stmt}
 use Rattle.word_code.specs.Quicken.{QuickBody, loosest, quick_stmt, quick_body}
 use Rattle.word_code.specs.Setting.{AreBoundsWithin, header_in}
-use Rattle.word_code.specs.View.{lazy_of}
+use Rattle.word_code.specs.Views.{lazy_of}
 use Rattle.word_code.proofs.Emitting.{made-more, made-all, stmt_sane}
 use Rattle.word_code.proofs.quicken.quicken_phase.Goals as goal
 use Rattle.nests.proofs.Limited.{item-within}
@@ -13,7 +13,7 @@ quicken_stmt-requires-clause-within c =
 
 pub loop-stmt-preserved : goal.loop-stmt-preserved
 loop-stmt-preserved c =
-    let z = lazy_of c.args.setting.slack in
+    let z = lazy_of c.args.setting.laziness in
     let h = header_in c.args.setting in
     let ends = c.in_ok-stmt.ensures.after in
     record {
@@ -33,7 +33,7 @@ loop-stmt-preserved c =
 
 pub returns : goal.returns
 returns c =
-    let z = lazy_of c.args.setting.slack in
+    let z = lazy_of c.args.setting.laziness in
     let h = header_in c.args.setting in
     ap (λ (b : QuickBody). b.body)
     (sym (made-all (quick_body z h) c.loop-stmt.stmt-index c.args.body.now (loosest z h) c.loop-stmt.made.items

@@ -7,7 +7,7 @@ use Rattle.word_code.proofs.settle.settle.Goals as goal
 pub returns-then-bound_of-target-clause-reductions : goal.returns-then-bound_of-target-clause-reductions
 returns-then-bound_of-target-clause-reductions c =
     let z = c.args.setting in
-    let limit = z.slack.limit in
+    let limit = z.laziness.limit in
     let whole = settled_in z c.args.left c.args.right c.args.target c.args.bounds.now in
     let is = over z.modulus limit (2 * limit - c.loop.counter) c.args.left c.args.right c.args.target c.loop.bounds c.loop.before.items whole
     (omega (arith, c.bound_of.ensures, c.bound_of-in-loop.ensures, c.if-bound_of-target.true)) c.loop.invariant.goes in
@@ -16,7 +16,7 @@ returns-then-bound_of-target-clause-reductions c =
 pub returns-then-bound_of-target-clause-after : goal.returns-then-bound_of-target-clause-after
 returns-then-bound_of-target-clause-after c =
     let z = c.args.setting in
-    let limit = z.slack.limit in
+    let limit = z.laziness.limit in
     let whole = settled_in z c.args.left c.args.right c.args.target c.args.bounds.now in
     let is = over z.modulus limit (2 * limit - c.loop.counter) c.args.left c.args.right c.args.target c.loop.bounds c.loop.before.items whole
     (omega (arith, c.bound_of.ensures, c.bound_of-in-loop.ensures, c.if-bound_of-target.true)) c.loop.invariant.goes in
@@ -25,7 +25,7 @@ returns-then-bound_of-target-clause-after c =
 pub loop-preserved : goal.loop-preserved
 loop-preserved c =
     let s = c.args.setting in
-    let limit = s.slack.limit in
+    let limit = s.laziness.limit in
     let whole = settled_in s c.args.left c.args.right c.args.target c.args.bounds.now in
     record {
       goes =

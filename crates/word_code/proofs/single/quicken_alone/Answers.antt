@@ -3,7 +3,7 @@ use Rattle.icode.specs.Plain.{plain_stmt, plain_body}
 use Rattle.word_code.specs.Needs.{needs_of_each}
 use Rattle.word_code.specs.Quicken.{QuickBody, loosest, loosened, quick_stmt, quick_alone}
 use Rattle.word_code.specs.Setting.{AreBoundsWithin, header_in}
-use Rattle.word_code.specs.View.{lazy_of}
+use Rattle.word_code.specs.Views.{lazy_of}
 use Rattle.word_code.proofs.Emitting.{made-more, made-all}
 use Rattle.word_code.proofs.Needing.{length-each}
 use Rattle.word_code.proofs.Loosening.{alone_splits, needed_sane}
@@ -20,7 +20,7 @@ quicken_needed-requires-clause-within c =
 
 pub loop-index-preserved : goal.loop-index-preserved
 loop-index-preserved c =
-    let z = lazy_of c.args.setting.slack in
+    let z = lazy_of c.args.setting.laziness in
     let h = header_in c.args.setting in
     let ends = c.in_ok-stmt.ensures.after in
     let needed : c.index.result.now ≡ get_or (needs_of_each (plain_body c.args.body.now)) c.loop-index.index c.index.result.now =
@@ -44,7 +44,7 @@ loop-index-preserved c =
 
 pub returns : goal.returns
 returns c =
-    let z = lazy_of c.args.setting.slack in
+    let z = lazy_of c.args.setting.laziness in
     let h = header_in c.args.setting in
     ap (λ (b : QuickBody). b.body)
     (sym (made-all (quick_alone z h) c.loop-index.index c.args.body.now (loosest z h) c.loop-index.made.items

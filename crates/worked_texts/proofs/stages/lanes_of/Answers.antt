@@ -1,6 +1,6 @@
 use Rattle.std.proofs.Common.{◌∙◌}
 use Rattle.sigma_lower.proofs.TreeLayouts.{trees_can_lower}
-use Rattle.smp_rewrite.specs.LayoutSteps.Whole.{whole_of}
+use Rattle.smp_rewrite.specs.Layout.Whole.{whole_of}
 use Rattle.tree_model.specs.Breakdown.{breakdown_of}
 use Rattle.worked_texts.proofs.stages.lanes_of.Goals as goal
 

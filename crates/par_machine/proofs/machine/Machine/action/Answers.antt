@@ -5,7 +5,7 @@ use Rattle.par_machine.specs.declared.cursor.Instruction.{Instruction}
 use Rattle.par_machine.specs.Header.{header_of}
 use Rattle.par_machine.specs.Hand.{step_at, action_of_step}
 use Rattle.par_machine.specs.Running.{Running}
-use Rattle.par_machine.specs.View.{frame_of, stand_of}
+use Rattle.par_machine.specs.Views.{frame_of, stand_of}
 use Rattle.par_machine.proofs.Frames.{hand_action}
 use Rattle.par_machine.proofs.Starting.{IsLeft, left_is, can_play, set_is}
 use Rattle.par_machine.proofs.machine.Machine.action.Goals as goal
@@ -37,4 +37,4 @@ returns c =
     subst (λ (x : Running). next_action x.code x.state q ≡ Some c.action.result) c.self.view_is
     (hand_action (frame_of a) (stand_of a) q r p.place c.self.invariant.running (set_is a q 1 r p left).here
     ∙ ap (λ (x : Action). Some x)
-    (ap (λ (xs : List Instruction). action_of_step (step_at (header_of a.engine) xs q p.place)) (sym c.deref.ensures.value) ∙ sym c.action.ensures))
+    (ap (λ (xs : List Instruction). action_of_step (step_at (header_of a.header) xs q p.place)) (sym c.deref.ensures.value) ∙ sym c.action.ensures))

@@ -9,7 +9,7 @@ use Rattle.par_machine.proofs.machine.Machine.new.Goals as goal
 abbrev made : goal.In_ok-processors → Inside
 made c =
     record {
-      engine = c.in_ok-engine.engine;
+      header = c.in_ok-header.header;
       phases = c.in_ok-phases.phases;
       memory = c.in_ok-memory.memory;
       phase = c.first_busy-phase.result;
@@ -21,7 +21,7 @@ is_new : (c : goal.In_ok-processors) → IsNew c.args.program.now (made c)
 is_new c =
     let phases = c.deref.ensures.value in
     record {
-      header = c.in_ok-engine.ensures;
+      header = c.in_ok-header.ensures;
       phases = c.in_ok-phases.ensures;
       memory = c.in_ok-memory.ensures;
       processors = c.in_ok-processors.ensures;

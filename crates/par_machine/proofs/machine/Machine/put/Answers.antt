@@ -21,7 +21,7 @@ written c =
     let w = c.self.invariant in
     record {
       size = c.requires.size ∙ sym (ap (λ (r : Running). r.code.size) c.self.view_is);
-      residues = below_from_all a.engine.shape.modulus c.args.input.now (omega (arith, w.ready.limits.of_modulus.0)) (subst (λ (r : Running). All (λ v. v < r.code.modulus) c.args.input.now) (sym c.self.view_is) c.requires.residues);
+      residues = below_from_all a.header.shape.modulus c.args.input.now (omega (arith, w.ready.limits.of_modulus.0)) (subst (λ (r : Running). All (λ v. v < r.code.modulus) c.args.input.now) (sym c.self.view_is) c.requires.residues);
       memory = with_items_is a.memory c.put_input.new.memory (c.put_input.auto.memory ∙ (ap length c.deref_mut.ensures.value ∙ sym a.memory.ok.0))
           ∙ (c.put_input.ensures ∙ ap (λ k. c.args.input.now ++ replicate (k - length c.args.input.now) 0) (ap length c.deref_mut.ensures.value));
       as_new_ones = with_items_is a.processors c.reset_all.new.processors (c.reset_all.auto.processors ∙ (ap length c.deref_mut-2.ensures.value ∙ sym a.processors.ok.0))

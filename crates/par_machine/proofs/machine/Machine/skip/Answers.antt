@@ -8,7 +8,7 @@ use Rattle.par_machine.specs.Instruction.{IsClosed}
 use Rattle.par_machine.specs.Processors.{registers_of}
 use Rattle.par_machine.specs.Running.{Running}
 use Rattle.par_machine.specs.Skipped.{skipped}
-use Rattle.par_machine.specs.View.{frame_of}
+use Rattle.par_machine.specs.Views.{frame_of}
 use Rattle.par_machine.proofs.Frames.{routine_is}
 use Rattle.par_machine.proofs.Skips.{IsSkipped, skip_acts, skip_room, skipped_state, skipped_runs}
 use Rattle.par_machine.proofs.Starting.{IsLeft, left_is, set_is, done_fits}

@@ -1,5 +1,5 @@
 use Rattle.renumbered_registers.specs.Renumbered.{are_consecutive}
-use Rattle.renumbered_registers.specs.View.{plain_numbering}
+use Rattle.renumbered_registers.specs.Views.{plain_numbering}
 use Rattle.renumbered_registers.proofs.Steps.{AreLeft}
 use Rattle.renumbered_registers.proofs.numbering.Numbering.are_consecutive.Given as goal
 

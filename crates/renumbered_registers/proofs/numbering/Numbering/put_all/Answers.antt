@@ -1,6 +1,6 @@
 use Rattle.std.proofs.Common.{◌≡◌, ◌+◌, ap, arith}
 use Rattle.renumbered_registers.specs.Renumbered.{Numbering}
-use Rattle.renumbered_registers.specs.View.{plain_numbering}
+use Rattle.renumbered_registers.specs.Views.{plain_numbering}
 use Rattle.renumbered_registers.proofs.Steps.{one_more_put}
 use Rattle.renumbered_registers.proofs.numbering.Numbering.put_all.Goals as goal
 

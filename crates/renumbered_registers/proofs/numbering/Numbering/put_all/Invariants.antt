@@ -1,6 +1,6 @@
 use Rattle.std.proofs.Common.{◌≡◌, ◌+◌, ◌-◌}
 use Rattle.renumbered_registers.specs.Renumbered.{put_all}
-use Rattle.renumbered_registers.specs.View.{plain_numbering}
+use Rattle.renumbered_registers.specs.Views.{plain_numbering}
 use Rattle.renumbered_registers.proofs.numbering.Numbering.put_all.Given as goal
 
 abbrev pub invariant-loop-lane : goal.invariant-loop-lane

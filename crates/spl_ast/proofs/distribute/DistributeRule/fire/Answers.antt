@@ -1,7 +1,7 @@
 use Rattle.std.proofs.Common.{ap, ◌∙◌, sym, subst}
 use Rattle.spl_ast.specs.Formula.{TensorLeft, TensorRight}
 use Rattle.spl_ast.specs.Shape.{IsShaped}
-use Rattle.spl_ast.specs.View.{formula_of}
+use Rattle.spl_ast.specs.Views.{formula_of}
 use Rattle.spl_ast.proofs.Distributing.{left_distributes, right_distributes}
 use Rattle.spl_ast.proofs.distribute.DistributeRule.fire.Goals as goal
 

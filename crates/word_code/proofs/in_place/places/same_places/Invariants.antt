@@ -1,6 +1,6 @@
 use Rattle.std.proofs.Common.{◌≡◌, drop, map}
 use Rattle.icode.specs.Plain.{plain_expr}
-use Rattle.word_code.specs.InPlace.Choice.{same_places}
+use Rattle.word_code.specs.InPlace.Routing.{same_places}
 use Rattle.word_code.proofs.in_place.places.same_places.Given as goal
 
 abbrev pub invariant-loop-index : goal.invariant-loop-index

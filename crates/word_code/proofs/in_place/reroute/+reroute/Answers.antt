@@ -1,5 +1,5 @@
 use Rattle.std.proofs.Common.{rules, ◌∙◌, sym, ap, arith, map}
-use Rattle.word_code.specs.View.{plain_word_stmt, word_body_of}
+use Rattle.word_code.specs.Views.{plain_word_stmt, word_body_of}
 use Rattle.nests.proofs.Items.{changed-none, changed-more, changed-all}
 use Rattle.word_code.specs.InPlace.Routes.{rerouted_stmt}
 use Rattle.word_code.proofs.InPlace.Rerouting.{body-map}

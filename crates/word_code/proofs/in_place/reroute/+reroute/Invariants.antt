@@ -1,4 +1,4 @@
-use Rattle.word_code.specs.View.{plain_word_stmt}
+use Rattle.word_code.specs.Views.{plain_word_stmt}
 use Rattle.nests.proofs.Items.{AreChanged}
 use Rattle.word_code.specs.InPlace.Routes.{rerouted_stmt}
 use Rattle.word_code.proofs.in_place.reroute.+reroute.Given as goal

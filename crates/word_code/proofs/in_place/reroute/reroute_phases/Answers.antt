@@ -2,7 +2,7 @@ use Rattle.std.proofs.Common.{arith, Vec, Global, length, get_or, ap, sym, â—Œâˆ
 use Rattle.std.specs.Vec.{with_items}
 use Rattle.std.proofs.lemmas.List.{with_items_is}
 use Rattle.word_code.specs.declared.program.WordStmt.{WordStmt}
-use Rattle.word_code.specs.View.{plain_word_body}
+use Rattle.word_code.specs.Views.{plain_word_body}
 use Rattle.nests.proofs.Items.{changed-more, changed-all}
 use Rattle.word_code.specs.InPlace.Routes.{rerouted_phase}
 use Rattle.word_code.proofs.in_place.reroute.reroute_phases.Goals as goal

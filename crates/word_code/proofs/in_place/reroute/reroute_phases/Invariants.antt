@@ -1,6 +1,6 @@
 use Rattle.std.proofs.Common.{Vec, Global}
 use Rattle.word_code.specs.declared.program.WordStmt.{WordStmt}
-use Rattle.word_code.specs.View.{plain_word_body}
+use Rattle.word_code.specs.Views.{plain_word_body}
 use Rattle.nests.proofs.Items.{AreChanged}
 use Rattle.word_code.specs.InPlace.Routes.{rerouted_phase}
 use Rattle.word_code.proofs.in_place.reroute.reroute_phases.Given as goal

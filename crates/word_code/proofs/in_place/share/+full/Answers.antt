@@ -2,7 +2,7 @@ use Rattle.std.proofs.Common.{◌≡◌, ◌∙◌, ap, sym}
 use Rattle.std.specs.Prelude.{◌==◌, not}
 use Rattle.icode.specs.Plain.{Loop, plain_stmt, plain_body}
 use Rattle.icode.proofs.Views.{plain_stmt-Loop}
-use Rattle.word_code.specs.InPlace.InPlace.{are_full}
+use Rattle.word_code.specs.InPlace.Sharing.{are_full}
 use Rattle.word_code.proofs.InPlace.Choosing.{full-some, full-none}
 use Rattle.word_code.proofs.in_place.share.+full.Goals as goal
 

@@ -1,6 +1,6 @@
 use Rattle.std.proofs.Common.{◌≡◌, drop}
 use Rattle.icode.specs.Plain.{plain_body}
-use Rattle.word_code.specs.InPlace.InPlace.{are_full}
+use Rattle.word_code.specs.InPlace.Sharing.{are_full}
 use Rattle.word_code.proofs.in_place.share.+full.Given as goal
 
 abbrev pub invariant-are_full-loop-stmt : goal.invariant-are_full-loop-stmt

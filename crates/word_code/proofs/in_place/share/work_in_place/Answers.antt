@@ -2,10 +2,10 @@ use Rattle.std.proofs.Common.{◌≡◌, ◌∙◌, ap, subst, sym}
 use Rattle.icode.specs.Machine.{IsApart}
 use Rattle.icode.specs.Program.{plain_program}
 use Rattle.word_code.specs.Bare.{WordsFit}
-use Rattle.word_code.specs.View.{plain_word_program}
+use Rattle.word_code.specs.Views.{plain_word_program}
 use Rattle.word_code.specs.WordMachine.{under}
 use Rattle.word_code.specs.WordProgram.{PlainWordProgram, word_code}
-use Rattle.word_code.specs.InPlace.InPlace.{in_place}
+use Rattle.word_code.specs.InPlace.Sharing.{in_place}
 use Rattle.word_code.specs.InPlace.Routes.{rerouted}
 use Rattle.word_code.proofs.InPlace.Fitting.{in_place_fits, in_place_apart}
 use Rattle.word_code.proofs.InPlace.Law.{alike_from}

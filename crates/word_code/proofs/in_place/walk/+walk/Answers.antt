@@ -5,7 +5,7 @@ use Rattle.icode.specs.Limits.{is_body_within}
 use Rattle.icode.specs.Program.{plain_program}
 use Rattle.icode.specs.declared.program.Stmt.{the_lemmas}
 use Rattle.icode.proofs.Views.{plain_stmt-Loop, plain_stmt-Do}
-use Rattle.word_code.specs.InPlace.View.{homes_of}
+use Rattle.word_code.specs.InPlace.Views.{homes_of}
 use Rattle.code_check.proofs.Walking.{within_loop, without_variable}
 use Rattle.word_code.proofs.InPlace.Walking.{item_within, item_fits, item_stops, item_goes_on, opened, turn_fits}
 use Rattle.word_code.proofs.InPlace.Walking.{turn_stops, turn_goes_on, op_fits}

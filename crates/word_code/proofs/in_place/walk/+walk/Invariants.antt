@@ -1,7 +1,7 @@
 use Rattle.std.proofs.Common.{◌≡◌, drop, length, take}
 use Rattle.icode.specs.Plain.{plain_stmt, plain_body}
 use Rattle.icode.specs.Program.{plain_program}
-use Rattle.word_code.specs.InPlace.View.{homes_of, span, IsTable}
+use Rattle.word_code.specs.InPlace.Views.{homes_of, span, IsTable}
 use Rattle.word_code.proofs.InPlace.Walking.{IsInBody, IsInLoop}
 use Rattle.word_code.proofs.in_place.walk.+walk.Given as goal
 

@@ -1,7 +1,7 @@
 use Rattle.std.proofs.Common.{◌<◌, [], length, sym, refl, arith}
 use Rattle.icode.specs.declared.program.Array.TheVariants.{X}
 use Rattle.icode.specs.Program.{plain_program}
-use Rattle.word_code.specs.InPlace.View.{homes_of}
+use Rattle.word_code.specs.InPlace.Views.{homes_of}
 use Rattle.word_code.proofs.InPlace.Walking.{phase_ends, routed_goes_on, routed_stops, first_fits}
 use Rattle.word_code.proofs.in_place.walk.walk_phase.Goals as goal
 

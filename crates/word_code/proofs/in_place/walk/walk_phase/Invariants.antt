@@ -2,7 +2,7 @@ use Rattle.std.proofs.Common.{drop}
 use Rattle.icode.specs.Plain.{plain_body}
 use Rattle.icode.specs.Program.{plain_program}
 use Rattle.word_code.specs.InPlace.Accesses.{accesses_of_phase}
-use Rattle.word_code.specs.InPlace.View.{homes_of, span, IsTable}
+use Rattle.word_code.specs.InPlace.Views.{homes_of, span, IsTable}
 use Rattle.word_code.proofs.InPlace.Walking.{IsInPhase}
 use Rattle.word_code.proofs.in_place.walk.walk_phase.Given as goal
 

@@ -1,5 +1,5 @@
 use Rattle.std.proofs.Common.{sym, ◌∙◌}
-use Rattle.word_code.specs.InPlace.View.{homes_of}
+use Rattle.word_code.specs.InPlace.Views.{homes_of}
 use Rattle.word_code.proofs.InPlace.Housing.{words_go_on}
 use Rattle.word_code.proofs.in_place.homes.HomeTable.are_home.Goals as goal
 

@@ -1,6 +1,6 @@
 use Rattle.std.proofs.Common.{◌≡◌, ◌+◌, ◌-◌}
 use Rattle.word_code.specs.InPlace.Homes.{are_home}
-use Rattle.word_code.specs.InPlace.View.{homes_of}
+use Rattle.word_code.specs.InPlace.Views.{homes_of}
 use Rattle.word_code.proofs.in_place.homes.HomeTable.are_home.Given as goal
 
 -- whether all words stand there is whether those that are left do

@@ -1,0 +1,5 @@
+use Rattle.commands.proofs.Documents.{c_document}
+use Rattle.commands.proofs.documents.c_text.Goals as goal
+
+pub returns-clause-text : goal.returns-clause-text
+returns-clause-text c = c_document c.args.request.now c.in_ok-program.program c.in_ok-text.text.items c.in_ok-program.ensures.program c.in_ok-text.ensures.text

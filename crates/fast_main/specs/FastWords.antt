@@ -1,4 +1,0 @@
-pub mod CommandLine
-pub mod Names
-pub mod Asked
-pub mod View

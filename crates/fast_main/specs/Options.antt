@@ -1,0 +1,4 @@
+pub mod CommandLine
+pub mod Names
+pub mod Asked
+pub mod Views

@@ -1,0 +1,5 @@
+pub mod Tree
+pub mod Step
+pub mod Views
+pub mod Meaning
+pub mod Whole

@@ -1,5 +1,0 @@
-pub mod Grouping
-pub mod Depths
-pub mod Lists
-pub mod Sums
-pub mod Halves

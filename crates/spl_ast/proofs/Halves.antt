@@ -1,0 +1,5 @@
+pub mod Grouping
+pub mod Depths
+pub mod Lists
+pub mod Sums
+pub mod Balanced

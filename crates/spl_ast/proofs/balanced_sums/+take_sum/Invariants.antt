@@ -1,5 +1,0 @@
-use Rattle.spl_ast.proofs.balanced_sums.+take_sum.Given as goal
-
--- half of the parts are fewer
-abbrev pub decreases-take_sum : goal.decreases-take_sum
-decreases-take_sum l = l.count

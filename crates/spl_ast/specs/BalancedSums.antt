@@ -1,5 +1,0 @@
-pub mod Depth
-pub mod Rows
-pub mod Summands
-pub mod Halves
-pub mod Taken

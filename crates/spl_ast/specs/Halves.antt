@@ -1,0 +1,5 @@
+pub mod Depth
+pub mod Rows
+pub mod Summands
+pub mod Balanced
+pub mod Taken
