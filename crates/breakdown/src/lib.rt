@@ -39,8 +39,10 @@ pub fn expand(alloc: Global, c: &Ctx, t: &Tree) -> Result<Spl, NoMemory>
     expansion_is_transform();
     nodes_do_what_is_asked();
     asked_of_requests();
+    // For the proof: the request is valid.
     let _ = c.request();
     let forward = c.forward();
+    // For the proof: the forward request is valid.
     let _ = forward.request();
     let by_tree = formula(alloc, &forward, t)?;
     let f = closed(alloc, c, by_tree)?;
@@ -72,6 +74,7 @@ fn node_formula(alloc: Global, p: &Ctx, rule: Rule, a: &Tree, b: &Tree) -> Resul
     ensures { IfOk result
         (λ f. f ≡ expansion p.now (node rule (breakdown_of a.now) (breakdown_of b.now))) }
 {
+    // For the proof: the request is valid.
     let _ = p.request();
     let (first, others) = parts_by(p, rule);
     let left = formula(alloc, &first, a)?;
@@ -135,6 +138,7 @@ fn by_strides(alloc: Global, p: &Ctx, a: Spl, b: Spl) -> Result<Spl, NoMemory>
     ensures { IfOk result (λ f. f
         ≡ rule_formula Ct (rows_of a) (rows_of b) (node_root p.now (rows_of a * rows_of b)) a b) }
 {
+    // For the proof: the request is valid.
     let _ = p.request();
     let (r, s) = (a.rows(), b.rows());
     let right = Spl::tensor_right(alloc, r, b)?;

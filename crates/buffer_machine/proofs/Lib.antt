@@ -5,6 +5,7 @@ pub mod Fitting
 pub mod Standing
 pub mod Lens
 pub mod Whole
+pub mod NextEvent
 pub mod Named
 pub mod CompletionLengths
 pub mod Direct

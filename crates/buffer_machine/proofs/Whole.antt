@@ -5,14 +5,14 @@ use Rattle.std.proofs.Common.{length-append, get_or, ◌≢◌}
 use Rattle.std.specs.Prelude.{slice_get, slice_index, slice_index_or, slice_set}
 use Rattle.std.proofs.lemmas.List.{get_or_read, get_or-replicate, length-replicate, length-map}
 use Rattle.std.proofs.lemmas.List.{replicate-append-replicate}
-use Rattle.std.proofs.lemmas.Bool.{cases_eq, cases_lt, false≢true}
+use Rattle.std.proofs.lemmas.Bool.{cases_lt, false≢true}
 use Rattle.std.proofs.lemmas.Option.{slice_get_within}
 use Rattle.icode.specs.declared.action.Action.{Action}
 use Rattle.icode.specs.declared.event.Event.{Event}
 use Rattle.icode.specs.declared.event.Event.TheVariants.{Turn, Drain}
 use Rattle.icode.specs.declared.program.Program.{Program}
 use Rattle.icode.specs.Actions.{Step}
-use Rattle.icode.specs.Buffers.{Waiting, Buffered, some_wait, IsBusy, IsIdle, is_waiting, buffered_completion}
+use Rattle.icode.specs.Buffers.{Waiting, Buffered, some_wait, IsBusy, buffered_completion}
 use Rattle.icode.specs.Buffers.{stores_among, buffered_start, buffered_turn, buffered_turn_with, buffered_moved_on}
 use Rattle.icode.specs.Buffers.{buffered_step, drain, drain_with}
 use Rattle.icode.specs.Operation.{AddressFits}
@@ -20,8 +20,7 @@ use Rattle.icode.specs.Machine.{Code, IsCode, State, acts, padded, start, first_
 use Rattle.icode.specs.Machine.{phases_after, none_done, next_action, moved_on, acted, turn_with, turn}
 use Rattle.icode.specs.Program.{plain_program, code_of, Fits, steps}
 use Rattle.icode.proofs.Below.{below-padded}
-use Rattle.icode.proofs.BufferedCompletion.{busy_step, starts_busy, waits_within, completion_turn, completion_drain}
-use Rattle.icode.proofs.BufferedCompletion.{completion_past, idle_past}
+use Rattle.icode.proofs.BufferedCompletion.{busy_step, starts_busy, waits_within}
 use Rattle.icode.proofs.End.{slice_index-zeros}
 use Rattle.icode.proofs.Completion.{first_opens}
 use Rattle.icode.proofs.Runs.{open_at}
@@ -47,7 +46,6 @@ use Rattle.buffer_machine.proofs.CompletionLengths.{few_step, few_start, few_eve
 use Rattle.buffer_machine.proofs.Lens.{acts_none}
 use Rattle.buffer_machine.proofs.Standing.{queue_is, standing_acted, acted_buffered, settled_buffered, standing_settled}
 use Rattle.buffer_machine.proofs.Standing.{standing_anew, standing_written, written_buffered, first_is_busy}
-use Rattle.buffer_machine.proofs.Direct.{some_action}
 use Rattle.par_machine.proofs.Starts.{room_for}
 
 abbrev next_of : Code → State → State
@@ -471,61 +469,3 @@ made p a t most w =
       },
       state,
     )
-
--- The next event
-
-pub idle_at : (a : Inside) (q : ℕ) → IsWhole a → q < (code_in a).procs →
-    slice_index a.lens.items a.values.phase ≤ slice_index a.values.done q →
-    is_waiting (backlog_at a.values.queues q).waiting ≡ false → IsIdle (code_in a) (buffered_of a.values) q
-idle_at a q w lt over none = (omega (arith, w.lens.each a.values.phase q lt), queue_is a.values.queues q ∙ empty (backlog_at a.values.queues q).waiting none)
-  where
-    empty : (ws : List Waiting) → is_waiting ws ≡ false → ws ≡ []
-    empty [] e = refl
-    empty (w ∷ ws) e = absurd (false≢true (sym e))
-
-pub idle_below : (a : Inside) (n : ℕ) → IsIdle (code_in a) (buffered_of a.values) n →
-    ((q : ℕ) → q < n → IsIdle (code_in a) (buffered_of a.values) q) → (q : ℕ) → q < n + 1 →
-    IsIdle (code_in a) (buffered_of a.values) q
-idle_below a n here before q lt =
-    ⊎_elim
-    (λ (e : q ≡ n). subst (IsIdle (code_in a) (buffered_of a.values)) (sym e) here)
-    (λ (ne : q ≡ n → ⊥). before q (omega arith))
-    (cases_eq q n)
-
-pub next_turn : {a : Inside} {q : ℕ} → HasLeft a q → ((k : ℕ) → k < q → IsIdle (code_in a) (buffered_of a.values) k) →
-    buffered_completion (code_in a) (buffered_of a.values) ≡ Turn q ∷ buffered_completion (code_in a)
-    (buffered_turn (code_in a) (buffered_of a.values) q)
-next_turn {a} {q} h idle =
-    let code : Code = code_in a in
-    let w = h.whole in
-    let xs : List Action = acts code a.values.phase q in
-    let small : slice_index a.values.done q < length xs = omega (arith, h.left, w.lens.each a.values.phase q h.proc) in
-    let some = some_action xs (slice_index a.values.done q) small in
-    completion_turn code w.good.lists (buffered_of a.values) q some.0 w.busy some.1 idle
-
-pub next_drain : (a : Inside) (q : ℕ) → IsWhole a → q < (code_in a).procs →
-    slice_index a.lens.items a.values.phase ≤ slice_index a.values.done q →
-    is_waiting (backlog_at a.values.queues q).waiting ≡ true →
-    ((k : ℕ) → k < q → IsIdle (code_in a) (buffered_of a.values) k) →
-    buffered_completion (code_in a) (buffered_of a.values) ≡ Drain q ∷ buffered_completion (code_in a)
-    (drain (code_in a) (buffered_of a.values) q)
-next_drain a q w lt over some idle =
-    let there = oldest_there (backlog_at a.values.queues q).waiting some in
-    completion_drain (code_in a) w.good.lists (buffered_of a.values) q there.0 there.1 w.busy lt (omega (arith, w.lens.each a.values.phase q lt)) (queue_is a.values.queues q ∙ there.2) idle
-  where
-    oldest_there : (ws : List Waiting) → is_waiting ws ≡ true → (w : Waiting) × (rest : List Waiting) × (ws ≡ w ∷ rest)
-    oldest_there [] e = absurd (false≢true e)
-    oldest_there (w ∷ ws) e = (w, ws, refl)
-
--- few events are left, seen from outside
-pub few_left : {a : Inside} {r : Running} → running_of a ≡ r → IsWhole a →
-    length (buffered_completion r.code r.state) < 2 ^ 60
-few_left {a} {r} view w = subst (λ (r : Running). length (buffered_completion r.code r.state) < 2 ^ 60) view w.few
-
-pub nothing_next : (a : Inside) → IsWhole a → length a.lens.items ≤ a.values.phase →
-    buffered_completion (code_in a) (buffered_of a.values) ≡ []
-nothing_next a w le = completion_past (code_in a) w.good.lists (buffered_of a.values) w.busy (omega (arith, w.lens.count))
-
-pub all_idle : (a : Inside) → IsWhole a → ((q : ℕ) → q < (code_in a).procs →
-    IsIdle (code_in a) (buffered_of a.values) q) → length a.lens.items ≤ a.values.phase
-all_idle a w idle = omega (arith, w.lens.count, idle_past (code_in a) w.good.lists (buffered_of a.values) w.busy idle)

@@ -70,15 +70,6 @@ module _ (p : PlainProgram) (phase q : ℕ) (words words0 : List Bool) (few : q 
             ∙ ap (words_after_processors p phase (p.procs - (q + 1)) (q + 1)) next);
       }
 
-pub processors_end : (p : PlainProgram) (phase q : ℕ) (words words0 : List Bool) → p.procs ≤ q →
-    IsInPhase p phase q words words0 →
-    (true ≡ processors_known p phase p.procs 0 words0) × (words ≡ words_after_processors p phase p.procs 0 words0)
-processors_end p phase q words words0 past at =
-    let none : p.procs - q ≡ 0 = omega (arith, past) in (
-      sym (at.known ∙ ap (λ n. processors_known p phase n q words) none),
-      sym (at.after ∙ ap (λ n. words_after_processors p phase n q words) none),
-    )
-
 -- what is left of the program from a phase on is known, and in the end the result
 abbrev from_phase : PlainProgram → ℕ → ℕ → List Bool → Bool
 from_phase p n phase words =
@@ -116,9 +107,3 @@ module _ (p : PlainProgram) (phase : ℕ) (words : List Bool) (lt : phase < leng
             ∙ (ap (λ (b : Bool). b && from_phase p (length p.phases - (phase + 1)) (phase + 1) after) (sym found)
             ∙ ap (from_phase p (length p.phases - (phase + 1)) (phase + 1)) (sym same));
       }
-
-pub program_ends : (p : PlainProgram) (phase : ℕ) (words : List Bool) → length p.phases ≤ phase →
-    IsInProgram p phase words → is_fresh p ≡ are_marked p.size words (whole_lines p.size p.line)
-program_ends p phase words past at =
-    let none : length p.phases - phase ≡ 0 = omega (arith, past) in
-    at.known ∙ ap (λ n. from_phase p n phase words) none

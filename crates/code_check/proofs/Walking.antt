@@ -92,35 +92,17 @@ module _ (p : PlainProgram) (q depth n n0 : ℕ) (whole left rest : PlainBody) (
   pub stmt_few : left ≡ AndStmts s rest → IsInBody p q whole left vs depth n n0 t t0 → n + len_of_stmt s < 2 ^ 64
   stmt_few e h = omega (arith, h.few, ap len_of_body e)
 
-pub body_ends : (p : PlainProgram) (q depth n n0 : ℕ) (whole left : PlainBody) (vs : List ℕ) (t t0 : List LineUse) →
-    left ≡ NoStmts → IsInBody p q whole left vs depth n n0 t t0 →
-    walked p q (steps_of_body p whole vs q) n0 t0 ≡ Passed n t
-body_ends p q depth n n0 whole left vs t t0 none h = sym h.leads ∙ ap (λ b. walked p q (steps_of_body p b vs q) n t) none
-
 pub next_live : (items : List Live) (i : ℕ) (x : Live) → i < length items → x ≡ get_or items i x →
     plain_lives (drop i items) ≡ AndStmts (plain_live x) (plain_lives (drop (i + 1) items))
 next_live items i x lt e =
     let split : drop i items ≡ x ∷ drop (i + 1) items = rw (add-one, drop-cons items i x) (ap (λ y. y ∷ drop (suc i) items) (sym e)) in
     ap plain_lives split
 
-pub no_live : (items : List Live) (i : ℕ) → length items ≤ i → plain_lives (drop i items) ≡ NoStmts
-no_live items i past = ap plain_lives (drop_all i items past)
-
 -- a walk over a loop, of which `turn` turns are walked
 pub record IsInLoop (p : PlainProgram) (q : ℕ) (s : PlainStmt) (body : PlainBody) (vs : List ℕ) (turn end n n0 : ℕ) (t t0 : List LineUse) : Type 0 where
   pub leads : walked p q (flat_map (λ i. steps_of_body p body (vs ++ i ∷ []) q) (range_with_len turn (end - turn))) n t
       ≡ walked p q (steps_of_stmt p s vs q) n0 t0
   pub few : n + (end - turn) * len_of_body body < 2 ^ 64
-
-pub loop_begins : (p : PlainProgram) (q count n : ℕ) (s : PlainStmt) (body : PlainBody) (vs : List ℕ)
-    (t : List LineUse) → s ≡ Loop count body → n + len_of_stmt s < 2 ^ 64 → IsInLoop p q s body vs 0 count n n t t
-loop_begins p q count n s body vs t e few =
-    let all : count - 0 ≡ count = omega arith in
-    record {
-      leads = ap (λ k. walked p q (flat_map (λ i. steps_of_body p body (vs ++ i ∷ []) q) (range_with_len 0 k)) n t) all
-          ∙ ap (λ z. walked p q (steps_of_stmt p z vs q) n t) (sym e);
-      few = omega (arith, few, ap len_of_stmt e, ap (λ k. k * len_of_body body) all);
-    }
 
 module _ (p : PlainProgram) (q turn end n n0 : ℕ) (s : PlainStmt) (body : PlainBody) (vs : List ℕ)
     (t t0 : List LineUse) where

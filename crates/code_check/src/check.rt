@@ -65,7 +65,7 @@ pub fn verify<'a>(alloc: Global, program: &'a Program) -> Result<Verified<'a>, C
     ensures verified { OnOk result (PassesCheck STEP_LIMIT (plain_program program.now)) }
     ensures cause { IfErr result (IsCause STEP_LIMIT (plain_program program.now)) }
 
-    // And what passes is verified, and what has a cause is refused for it.
+    // What passes is verified, and what has a cause is refused for it.
     ensures passes { PassesCheck STEP_LIMIT (plain_program program.now)
         → IfErr result (λ fault. fault ≡ CheckFault.NoMemory) }
     ensures refused { (fault : CheckFault) → fault ≢ CheckFault.NoMemory

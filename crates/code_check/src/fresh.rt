@@ -119,7 +119,7 @@ fn stmt_reads_known(
     }
 }
 
-// The same for statements.
+// Whether statements, one after another, read only what is known.
 #[cycle(known)]
 fn body_reads_known(
     body: &[Live<'_>],
@@ -148,7 +148,7 @@ fn body_reads_known(
     true
 }
 
-// The same for all processors of a phase, one after another.
+// Whether the processors of a phase, one after another, read only what is known.
 fn phase_reads_known(
     alloc: Global,
     program: &Program,
@@ -174,7 +174,7 @@ fn phase_reads_known(
     Ok(true)
 }
 
-// The same for all phases, and whether then all words of the result are known.
+// Whether all phases read only what is known, and all words of the result are known then.
 fn program_reads_known(alloc: Global, program: &Program) -> Result<bool, NoMemory>
     requires fits { Fits program.now }
     ensures { IfOk result (λ fresh. fresh ≡ is_fresh (plain_program program.now)) }

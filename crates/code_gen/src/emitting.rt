@@ -33,7 +33,7 @@ pub fn emit(alloc: Global, c: &Ctx, merged: &Merged) -> Result<Program, NoMemory
     Ok(program)
 }
 
-/// The same of passes for one processor of one lane: those of a formula.
+/// The program of merged passes for one processor of one lane: those of a formula.
 pub fn emit_formula(alloc: Global, m: &Modulus, merged: &Merged) -> Result<Program, NoMemory>
     requires { IsReady (plain_machine merged.now.size m.now) (plain_merged merged.now) }
     ensures code { IfOk result (λ p. plain_program p
@@ -45,7 +45,7 @@ pub fn emit_formula(alloc: Global, m: &Modulus, merged: &Merged) -> Result<Progr
     Ok(program)
 }
 
-/// The same of passes that are joined from those of two requests for one machine.
+/// The program of passes that `join` made of those of two requests for one machine.
 pub fn emit_joined(
     alloc: Global,
     first: &Ctx,
@@ -59,6 +59,7 @@ pub fn emit_joined(
     ensures performs { IfOk result (λ p.
         Performs (target_of first.now) (plain_merged merged.now) (plain_program p)) }
 {
+    // For the proof: the second request is valid.
     let _ = second.request();
     let program = emit(alloc, first, merged)?;
     Ok(program)

@@ -27,7 +27,7 @@ pub(crate) struct Emitted {
     pub registers: u64,
 }
 
-// These statements, which use `used` registers, and more where items are multiplied.
+// The statements, which use `used` registers, and more where items are multiplied.
 fn with_registers(
     statements: Vec<Stmt>,
     multiplier: &Option<Multiplier>,

@@ -7,7 +7,7 @@ pub fn programs_are_emissions()
     ensures { ProgramsAreEmissions }
 {}
 
-/// So is the program of each planned tree and a list.
+/// The program of each planned tree and a list is the one of the rules of emission.
 pub fn conv_programs_are_emissions()
     ensures { ConvProgramsAreEmissions }
 {}

@@ -42,6 +42,7 @@ fn code_of_formula(alloc: Global, modulus: &Modulus, formula: &Spl) -> Result<Pr
     ensures letters { IfOk result (λ program.
         plain_program program ≡ program_as_it_stands modulus.now formula.now) }
 {
+    // For the proof: the modulus and the formula are within their limits.
     let _modulus = modulus.get();
     let _rows = formula.rows();
     let merged = merge_formula(alloc, modulus, formula)?;
@@ -59,7 +60,7 @@ fn merge_formula(alloc: Global, modulus: &Modulus, formula: &Spl) -> Result<Merg
     Ok(coalesced)
 }
 
-// The same passes, with copies joined in each phase.
+// The passes, with copies coalesced in each phase.
 fn coalesce_phases(alloc: Global, merged: Merged) -> Result<Merged, NoMemory>
     ensures { IfOk result (λ g. plain_merged g ≡ phases_coalesced (plain_merged merged)) }
 {

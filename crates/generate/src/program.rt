@@ -24,6 +24,7 @@ pub fn program_of_tree(alloc: Global, c: &Ctx, tree: &Tree) -> Result<Program, N
         Performs (target_of c.now) (tree_merged c.now (breakdown_of tree.now))
         (plain_program p)) }
 {
+    // For the proof: the request is valid.
     let _request = c.request();
     let merged = merge_tree(alloc, c, tree)?;
     let program = emit(alloc, c, &merged)?;

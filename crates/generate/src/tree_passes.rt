@@ -30,6 +30,7 @@ pub fn merge_tree(alloc: Global, c: &Ctx, tree: &Tree) -> Result<Merged, NoMemor
     ensures tree { IfOk result (λ merged.
         IsMergedTree c.now (breakdown_of tree.now) (plain_merged merged)) }
 {
+    // For the proof: the request is valid.
     let _request = c.request();
     let formula = expand(alloc, c, tree)?;
     let blocks = to_smp(alloc, c, tree, formula)?;

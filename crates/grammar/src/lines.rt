@@ -1,3 +1,4 @@
+// Which line of a text a place is in.
 ghost use Rattle.std.specs.Prelude.{◌≡◌, ◌≤◌, ◌+◌, length, take};
 ghost use Rattle.grammar.specs.Grammar.{line_ends};
 

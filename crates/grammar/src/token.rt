@@ -99,7 +99,7 @@ pub fn number(text: &[u8], most: u64) -> Result<(u64, &[u8]), Stuck>
     }
 }
 
-/// The same from 1 on.
+/// The number from 1 on at the front, at most `most`, and what comes after it.
 pub fn positive(text: &[u8], most: u64) -> Result<(u64, &[u8]), Stuck>
     ensures { GivesToken (λ x. (x.0, x.1.now)) result (positive_in (most + 1) text.now) }
 {

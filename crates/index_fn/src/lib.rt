@@ -34,7 +34,7 @@ pub enum Index {
     /// Back from the places after such a step. After `r` and `s` stand the multiple of `s` that leaves 1 by `r` and that
     /// of `r` that leaves 1 by `s`, both below `r * s`.
     ThomasBack(u64, u64, u64, u64),
-    /// These places.
+    /// Places in a list.
     Explicit(Vec<u64>),
     /// `Tensor(f, c, g, d)` is `f` at the quotient by `d`, times `c`, and `g` at the remainder.
     Tensor(Box<Index>, u64, Box<Index>, u64),
@@ -84,7 +84,7 @@ impl Index {
         }
     }
 
-    /// The same function once more.
+    /// A copy of the function.
     pub fn copy(&self, alloc: Global) -> Result<Index, NoMemory>
         ensures { IfOk result (λ g. mapping_of g ≡ mapping_of self.now) }
     {

@@ -118,7 +118,7 @@ pub(crate) fn order(depth: u64, count: &mut u64, body: &mut [Stmt])
     order_around(depth, count, &mut body[0]);
 }
 
-// The same of a loop that stands around this statement alone.
+// A loop that stands around this statement alone gets in order.
 #[cycle(ordering)]
 fn order_around(depth: u64, count: &mut u64, only: &mut Stmt)
     requires { depth + loops_in (AndStmts (plain_stmt only.old) NoStmts) < 64 }

@@ -98,6 +98,7 @@ pub fn dft_kernel(alloc: Global, m: &Modulus, d: u64, w: u64) -> Result<Kernel, 
     ensures cost { IfOk result (λ k. CostsDefinition m.now d w (made_of k)) }
     ensures straight { IfOk result (λ k. IsStraight m.now d (made_of k)) }
 {
+    // For the proof: the modulus is within its limits.
     let _modulus = m.get();
     let made = leaf_kernel(alloc, m, d, w)?;
     Ok(made)

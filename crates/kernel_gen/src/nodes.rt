@@ -43,7 +43,7 @@ impl Writer {
         Ok(outs)
     }
 
-    /// The same, with row i times its twiddle factors, the powers of a root.
+    /// Puts the rows, with row i times its twiddle factors, the powers of a root.
     #[cycle(tree)]
     fn put_twiddled_rows(
         &mut self,

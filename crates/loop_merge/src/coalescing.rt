@@ -13,7 +13,7 @@ use sigma_spl::Nest;
 use std::alloc::Global;
 use std::mem::drop;
 
-/// The same passes, with copies of words that stand side by side as one loop.
+/// The passes, with copies of words that stand side by side as one loop.
 pub fn coalesce_copies(alloc: Global, passes: Vec<Vec<Nest>>) -> Result<Vec<Vec<Nest>>, NoMemory>
     ensures { IfOk result
         (λ coalesced. plain_passes coalesced.items ≡ all_coalesced (plain_passes passes.items)) }

@@ -1,6 +1,6 @@
 //! Terms merged into passes: permutations go into loads and stores, diagonals into the pass before them, and a copy
-//! pass takes what no pass can take within the limits. Copies side by side are joined, and so are the passes of two
-//! programs.
+//! pass takes what no pass can take within the limits. Copies side by side are coalesced, and the passes of two
+//! programs are joined.
 #![tactic(auto)]
 
 mod copies;

@@ -9,7 +9,7 @@ use memory::NoMemory;
 use sigma_spl::{Factors, Nest};
 use std::alloc::Global;
 
-/// The same passes of one phase, of which the last one multiplies each item that it stores by the factor of its place.
+/// The passes of one phase, of which the last one now multiplies each item that it stores by the factor of its place.
 pub(crate) fn multiply_last_pass(
     alloc: Global,
     passes: Vec<Vec<Nest>>,

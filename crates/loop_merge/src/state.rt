@@ -1,4 +1,5 @@
-// States of merging.
+// States of merging. Terms are merged in the order in which they are applied. A permutation has no pass of its own: it waits as a
+// gather, until a loop comes that loads by it, or goes into the stores of the pass before.
 use index_fn::Index;
 use sigma_spl::Nest;
 

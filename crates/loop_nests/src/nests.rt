@@ -203,7 +203,7 @@ fn values(alloc: Global, size: u64, f: &Index) -> Result<Vec<u64>, NoMemory>
     Ok(values)
 }
 
-/// The same nest, in other memory.
+/// A copy of the nest, in other memory.
 pub fn copied_nest(alloc: Global, nest: &Nest) -> Result<Nest, NoMemory>
     ensures { IfOk result (λ z. plain_nest z ≡ plain_nest nest.now) }
 {

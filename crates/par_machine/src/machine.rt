@@ -230,7 +230,7 @@ impl Machine {
         }
     }
 
-    /// These words become its memory, and nothing else changes.
+    /// The words become the memory, and nothing else changes.
     pub fn put_memory(&mut self, words: &[u64])
         requires size { length words.now ≡ 4 * padded self.old.code }
         requires residues { (k : ℕ) → slice_index words.now k < self.old.code.modulus }
@@ -241,7 +241,7 @@ impl Machine {
         self.memory.copy_from_slice(words);
     }
 
-    /// These words become a processor's registers, and nothing else changes.
+    /// The words become a processor's registers, and nothing else changes.
     pub fn put_registers(&mut self, proc: u64, words: &[u64])
         requires proc { proc < self.old.code.procs }
         requires size { length words.now ≡ self.old.code.regs * self.old.code.lanes }

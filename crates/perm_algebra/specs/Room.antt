@@ -114,9 +114,3 @@ has_room cs (After f g) e = has_room cs g e && has_room cs f (simplified cs g e)
 
 abbrev pub RoomDecided : Type 0
 RoomDecided = (cs : ℕ → ℕ) (f : Mapping) (e : Sum) → (has_room cs f e ≡ true) ↔ HasRoomFor cs f e
-
--- how many functions are put together
-abbrev pub depth_of : Mapping → ℕ
-depth_of (Paired f c g d) = 1 + (depth_of f + depth_of g)
-depth_of (After f g) = 1 + (depth_of f + depth_of g)
-depth_of f = 0

@@ -110,7 +110,7 @@ pub struct Multiples {
     pub rem: u64,
 }
 
-// These multiples of the quotient and of the remainder by `s`, modulo `r * s`.
+// The sum of multiples of the quotient and of the remainder by `s`, modulo `r * s`.
 fn mix(
     alloc: Global,
     counts: &[u64],

@@ -1,3 +1,4 @@
+// The quotient and the remainder of a sum by a divisor.
 ghost use Rattle.std.specs.Prelude.{◌≡◌, ◌/◌, ◌%◌, ◌<◌, ◌≤◌, IfOk, slice_index};
 ghost use Rattle.perm_algebra.specs.Affine.{top, head, rest_of, divided, mods, reduced};
 ghost use Rattle.perm_algebra.specs.Contract.{EachValue, FitsOver, IsImage, IsSumOver};

@@ -1,3 +1,4 @@
+// Sums of places: copies, multiples, and the sum of two.
 ghost use Rattle.std.specs.Prelude.{◌≡◌, ℕ, ◌+◌, ◌*◌, ◌^◌, ◌<◌, List, IfOk};
 ghost use Rattle.perm_algebra.specs.Affine.{scaled, added, value};
 ghost use Rattle.perm_algebra.specs.Contract.{IsSumOver};

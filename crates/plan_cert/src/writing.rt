@@ -24,6 +24,7 @@ pub fn certify(alloc: Global, c: &Ctx) -> Result<Vec<u8>, NoMemory>
     ensures verdict { IfOk result (λ text.
         (cost : ℕ) × IsVerdict c.now text.items (Least cost) × IsWholeLeast c.now cost) }
 {
+    // For the proof: the request is valid.
     let _ = c.request();
     let value = certificate_value(alloc, c)?;
     let text = value_line(alloc, &value)?;

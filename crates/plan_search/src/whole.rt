@@ -34,6 +34,7 @@ fn plan_of_one(alloc: Global, c: &Ctx) -> Result<Plan, NoMemory>
     requires divides { CanDivide c.now }
     ensures { IfOk result (IsWholePlan c.now) }
 {
+    // For the proof: the request is valid.
     let _request = c.request();
     let forward = c.forward();
     let Some(plan) = best_whole(alloc, &forward)? else {
@@ -63,6 +64,7 @@ fn plan_of_both(
     requires right { IsWholePlan rest.now b }
     ensures { IfOk result (IsWholePlan c.now) }
 {
+    // For the proof: the request is valid.
     let _request = c.request();
     let r = first.request().size;
     let s = rest.request().size;

@@ -104,12 +104,6 @@ one_more_stmt lanes z made stmt new rest whole is h =
     ∙ sym (ap (λ o. front made (and_stmts o (numbered_body lanes (after_stmt lanes z stmt) rest))) is)
     ∙ h
 
-pub no_stmt : (lanes : ℕ) (z : Numbering) (made : List PlainStmt) (stmt : PlainStmt) (rest : PlainBody)
-    (whole : Option PlainBody) → numbered_stmt lanes z stmt ≡ None →
-    front made (numbered_body lanes z (AndStmts stmt rest)) ≡ whole → ◌≡◌ {A = Option PlainBody} None whole
-no_stmt lanes z made stmt rest whole is h =
-    sym (ap (λ o. front made (and_stmts o (numbered_body lanes (after_stmt lanes z stmt) rest))) is) ∙ h
-
 pub all_stmts : (lanes : ℕ) (z : Numbering) (made : List PlainStmt) (whole : Option PlainBody) →
     front made (numbered_body lanes z NoStmts) ≡ whole → Some (body_of made) ≡ whole
 all_stmts lanes z made whole h = ap Some (sym (followed-all made)) ∙ h
@@ -153,15 +147,6 @@ front-phases-more : (made : List PlainBody) (body : PlainBody) (rest : Option (L
     front_phases (made ++ body ∷ []) rest ≡ front_phases made (and_phases (Some body) rest)
 front-phases-more made body None = refl
 front-phases-more made body (Some rest) = ap Some (append_assoc made (body ∷ []) rest)
-
-pub one_more_phase : (lanes : ℕ) (made : List PlainBody) (body new : PlainBody) (rest : List PlainBody)
-    (whole : Option (List PlainBody)) → numbered_body lanes no_numbers body ≡ Some new →
-    front_phases made (numbered_phases lanes (body ∷ rest)) ≡ whole →
-    front_phases (made ++ new ∷ []) (numbered_phases lanes rest) ≡ whole
-one_more_phase lanes made body new rest whole is h =
-    front-phases-more made new (numbered_phases lanes rest)
-    ∙ sym (ap (λ o. front_phases made (and_phases o (numbered_phases lanes rest))) is)
-    ∙ h
 
 pub no_phase : (lanes : ℕ) (made : List PlainBody) (body : PlainBody) (rest : List PlainBody)
     (whole : Option (List PlainBody)) → numbered_body lanes no_numbers body ≡ None →

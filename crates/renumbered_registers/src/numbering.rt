@@ -42,7 +42,7 @@ impl Numbering {
         Ok(())
     }
 
-    /// So do `count` registers, from this one on.
+    /// `count` registers from this one on are put, and each gets the next number.
     #[tactic(auto, using(crate::proofs::Steps::one_more_put, crate::proofs::Steps::all_are_put))]
     pub(crate) fn put_all(&mut self, count: u64, register: u64) -> Result<(), NoMemory>
         requires { self.old.next + count < 2 ^ 32 }

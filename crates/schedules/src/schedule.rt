@@ -34,7 +34,7 @@ enum Turns {
     Sequential,
     /// Each processor in rising order, `count` times.
     Rounds { count: u64 },
-    /// These.
+    /// Turns in a list.
     Named { turns: Vec<u64> },
     /// `count` turns of the generator, from a seed.
     Seeded { seed: u64, count: u64 },

@@ -48,6 +48,7 @@ pub fn lower_formula(alloc: Global, modulus: &Modulus, formula: &Spl) -> Result<
         → sigma_cost weight (work_cost weight modulus.now) (plain_sigma s)
         ≡ operations weight modulus.now formula.now) }
 {
+    // For the proof: the modulus and the formula are within their limits.
     let _modulus = modulus.get();
     let size = formula.rows();
     let whole = term(alloc, modulus, &[], formula)?;

@@ -47,7 +47,7 @@ pub fn trees_can_merge()
     ensures { TreesCanMerge }
 {}
 
-/// So can those of each tree that a request admits.
+/// The terms of each tree that a request admits can be merged.
 pub fn trees_can_lower()
     ensures { TreesCanLower }
 {}

@@ -46,6 +46,7 @@ pub fn lower(alloc: Global, c: &Ctx, vectors: VecSpl) -> Result<Sigma, NoMemory>
     ensures tree { IfOk result (λ g. (t : Breakdown) → IsVecOfTree c.now t (plain_vec vectors) →
         IsTreeSigma c.now t (plain_sigma g)) }
 {
+    // For the proof: the request is valid.
     let _request = c.request();
     let target = vectors.target;
     let closing = vectors.closing;

@@ -94,9 +94,3 @@ sigma_merges s good =
       meaning = λ m x positive v. meaning s.lanes s.size good.some good.most m s.phases x positive good.phases v;
       operations = λ weight cost free. operations s.lanes s.size good.some good.most weight cost s.phases free good.phases;
     }
-
--- so they have as many in all
-pub alike-in-all : (s : PlainSigma) (g : PlainMerged) (weight : ℕ) (cost : PlainWork → ℕ) →
-    merged_costs weight cost g ≡ sigma_costs weight cost s →
-    in_all (merged_costs weight cost g) ≡ sigma_cost weight cost s
-alike-in-all s g weight cost alike = ap in_all alike

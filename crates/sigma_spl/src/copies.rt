@@ -8,7 +8,7 @@ use memory::NoMemory;
 use perm_algebra::{Affine, copy};
 use std::alloc::Global;
 
-/// The same sums, in other memory.
+/// A copy of the sums, in other memory.
 pub fn copied_sums(alloc: Global, sums: &[Affine]) -> Result<Vec<Affine>, NoMemory>
     ensures { IfOk result (λ others. map plain_sum others.items ≡ map plain_sum sums.now) }
 {
@@ -21,7 +21,7 @@ pub fn copied_sums(alloc: Global, sums: &[Affine]) -> Result<Vec<Affine>, NoMemo
 }
 
 impl Factors {
-    /// The same factors, in other memory.
+    /// A copy of the factors, in other memory.
     pub fn copied(&self, alloc: Global) -> Result<Factors, NoMemory>
         ensures { IfOk result (λ others. plain_factors others ≡ plain_factors self.now) }
     {

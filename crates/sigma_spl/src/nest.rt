@@ -7,7 +7,7 @@ use smallvec::SmallVec;
 /// The factors of a diagonal, from its first place on: residues modulo the transform's modulus.
 #[derive(Drop)]
 pub enum Factors {
-    /// These values.
+    /// Values in a list.
     Values(Vec<u64>),
     /// The `rows * cols` twiddles of a Fourier transform by this root: at the place p the root to the power
     /// `(p / cols) * (p % cols)`.

@@ -1,7 +1,7 @@
 // What a nest does to each copy.
 ghost use Rattle.std.specs.Prelude.{◌≡◌, IfOk};
 ghost use Rattle.sigma_spl.specs.Views.{plain_work};
-ghost use Rattle.sigma_spl.specs.Work.{HasWords, is_straight, vectors_of, work_size};
+ghost use Rattle.sigma_spl.specs.Work.{HasWords, work_size};
 
 use matrix_meaning::Kind;
 use memory::NoMemory;
@@ -17,7 +17,7 @@ pub enum Work {
     Short { kind: Kind, root: u64, size: u64 },
     /// A longer leaf by its rows: each the sum of the items' products with powers of a root of this size.
     Dense { root: u64, size: u64 },
-    /// The same transform for any root, each row by Horner's rule.
+    /// A longer leaf for any root, each row by Horner's rule.
     Horner { root: u64, size: u64 },
     /// The stride permutation `L(lanes * lanes, lanes)`, in registers.
     Tile { lanes: u64 },
@@ -42,29 +42,7 @@ impl Work {
         }
     }
 
-    /// How many registers the items of a copy of straight work fill.
-    pub fn vectors(&self) -> u64
-        requires { HasWords (plain_work self.now) }
-        ensures { result ≡ vectors_of (plain_work self.now) }
-    {
-        match self {
-            Work::Tile { lanes } => *lanes,
-            work => work.size(),
-        }
-    }
-
-    /// Whether the code of a copy names its items one by one.
-    pub fn is_straight(&self) -> bool
-        ensures { result ≡ is_straight (plain_work self.now) }
-    {
-        match self {
-            Work::Dense { .. } | Work::Horner { .. } => false,
-            Work::Kernel { .. } | Work::Short { .. } | Work::Tile { .. } | Work::Copy { .. } =>
-                true,
-        }
-    }
-
-    /// The same work, in other memory.
+    /// A copy of the work, in other memory.
     pub fn copied(&self, alloc: Global) -> Result<Work, NoMemory>
         ensures { IfOk result (λ work. plain_work work ≡ plain_work self.now) }
     {

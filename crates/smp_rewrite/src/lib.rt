@@ -35,7 +35,7 @@ use tree_model::{Ctx, Tree};
 /// A factor of a formula for several processors, of which each does an equal part.
 #[derive(Drop)]
 pub enum Factor {
-    /// The same step for each processor, on a block of consecutive words of its own.
+    /// A step that each processor does on a block of consecutive words of its own.
     Blocks(Step),
     /// A diagonal over all words, of which each processor has an equal part.
     Diagonals(Step),
@@ -74,6 +74,7 @@ pub fn to_smp(alloc: Global, c: &Ctx, tree: &Tree, formula: Spl) -> Result<SmpSp
     ensures fits { IfOk result (λ f. IsGoodSmpOf (target_of c.now) (plain_smp f)) }
     ensures tree { IfOk result (λ f. IsSmpOfTree c.now (breakdown_of tree.now) (plain_smp f)) }
 {
+    // For the proof: the request is valid.
     let _request = c.request();
     let closing = closing_in(&formula);
     let steps = steps_by(alloc, &c.forward(), tree, body_of(&formula))?;

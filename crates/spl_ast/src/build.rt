@@ -111,6 +111,7 @@ impl Spl {
         requires { size_of first ≡ size_of second }
         ensures { IfOk result (λ f. f ≡ Product first second) }
     {
+        // For the proof: both formulas are well formed.
         let _ = &first.node;
         let _ = &second.node;
         let first = Box::new(alloc, first)?;
@@ -126,6 +127,7 @@ impl Spl {
         requires size { IsSize (size_of a * k) }
         ensures { IfOk result (λ f. f ≡ TensorLeft a k) }
     {
+        // For the proof: the formula is well formed.
         let _ = &a.node;
         let a = Box::new(alloc, a)?;
         Ok(Spl {
@@ -139,6 +141,7 @@ impl Spl {
         requires size { IsSize (k * size_of a) }
         ensures { IfOk result (λ f. f ≡ TensorRight k a) }
     {
+        // For the proof: the formula is well formed.
         let _ = &a.node;
         let a = Box::new(alloc, a)?;
         Ok(Spl {
@@ -151,6 +154,7 @@ impl Spl {
         requires { IsSize (size_of first + size_of second) }
         ensures { IfOk result (λ f. f ≡ DirectSum first second) }
     {
+        // For the proof: both formulas are well formed.
         let _ = &first.node;
         let _ = &second.node;
         let first = Box::new(alloc, first)?;
@@ -164,6 +168,7 @@ impl Spl {
     pub fn pending(alloc: Global, a: Spl) -> Result<Spl, NoMemory>
         ensures { IfOk result (λ f. f ≡ Pending a) }
     {
+        // For the proof: the formula is well formed.
         let _ = &a.node;
         let a = Box::new(alloc, a)?;
         Ok(Spl {

@@ -23,11 +23,13 @@ pub fn balance(alloc: Global, formula: Spl) -> Result<Spl, NoMemory>
     ensures balanced { IfOk result IsBalanced }
     ensures halves { IfOk result (λ g. g ≡ balanced formula) }
 {
+    // For the proof: the formula is well formed.
     let _ = &formula.node;
     let mut parts = Vec::new(alloc);
     add_summands(alloc, &mut parts, formula)?;
     let count = parts.len();
     let sum = take_sum(alloc, &mut parts, count)?;
+    // For the proof: the sum is well formed.
     let _ = &sum.node;
     Ok(sum)
 }

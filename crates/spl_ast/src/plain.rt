@@ -22,6 +22,7 @@ impl Spl {
         ensures value { IfOk result (λ y. y.items ≡ apply m.now f.now x.now) }
         ensures vector { IfOk result (λ y. IsVector m.now (size_of f.now) y.items) }
     {
+        // For the proof: the formula is well formed.
         let _ = &f.node;
         let y = times(alloc, m, f, x)?;
         Ok(y)

@@ -21,11 +21,3 @@ rooted_words p (node Ct a b) h = h
 rooted_words p (node Split a b) h = h
 rooted_words p (node Dim a b) h =
     (h.0, rooted_words (rest_of p) b h.1, subst (λ n. size_of a * n < 2 ^ 64) (rooted_size (rest_of p) b) h.2)
-
-pub words_rooted : (p : Request) (t : Breakdown) → HasWordSizes t → AreWords (rooted_of p t)
-words_rooted p (leaf d) h = h
-words_rooted p (node Gt a b) h = h
-words_rooted p (node Ct a b) h = h
-words_rooted p (node Split a b) h = h
-words_rooted p (node Dim a b) h =
-    (h.0, words_rooted (rest_of p) b h.1, rw (rooted_size (rest_of p) b) h.2)

@@ -39,19 +39,3 @@ trees-below m (tensor kind root tree others) x k modulus below =
     rw (at-on_columns r s (transform kind m r root) inner a b row within)
     (transform-below kind m r root (column r s b inner) a modulus row))
     k below
-
-pub trees-same : (m : ℕ) (trees : PlainTrees) (x y : List ℕ) →
-    ((i : ℕ) → i < trees_size trees → slice_index x i % m ≡ slice_index y i % m) →
-    trees_on m trees x ≡ trees_on m trees y
-trees-same m (single kind root tree) x y h = transform-same kind m (size_of tree) root x y h
-trees-same m (tensor kind root tree others) x y h =
-    let r = size_of tree in
-    let s = trees_size others in
-    ap (on_columns r s (transform kind m r root))
-    (list_below-same (r * s) _ _ (λ p below.
-    let row : p / s < r = (div-lt_iff_lt-mul (factor_positive r s p below)).1 below in
-    ap (λ z. slice_index z (p % s))
-    (trees-same m others (block s (p / s) x) (block s (p / s) y) (λ j within.
-    ap (λ z. z % m) (at-list_below s _ j within)
-    ∙ h (p / s * s + j) (place_below (p / s) j r s row within)
-    ∙ ap (λ z. z % m) (sym (at-list_below s _ j within))))))

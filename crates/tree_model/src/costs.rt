@@ -200,7 +200,7 @@ fn powers_cost(c: &Ctx, minus: u64, root: u64, rows: u64, columns: u64) -> u64
     total
 }
 
-// The same in the row `k` alone: its entries are the powers of one number.
+// What these products cost in the row `k` alone: its entries are the powers of one number.
 #[tactic(auto, using(crate::proofs::CostBounds::sums, crate::proofs::Products::row_start, crate::proofs::Products::row_next))]
 fn row_cost(c: &Ctx, minus: u64, root: u64, k: u64, columns: u64) -> u64
     requires columns { columns ≤ 2 ^ 32 }

@@ -27,7 +27,7 @@ pub enum Tree {
 }
 
 impl Tree {
-    /// The same tree, in other memory.
+    /// A copy of the tree, in other memory.
     pub fn copied(&self, alloc: Global) -> Result<Tree, NoMemory>
         ensures { IfOk result (λ t. breakdown_of t ≡ breakdown_of self.now) }
     {

@@ -24,7 +24,7 @@ use tree_model::Ctx;
 /// A factor of a formula for processors and lanes.
 #[derive(Drop)]
 pub enum VecFactor {
-    /// The same step on each lane of each processor's block: in the block it is `A tensor I_v`, for v lanes.
+    /// A step on each lane of each processor's block: in the block it is `A tensor I_v`, for v lanes.
     Lanes(Step),
     /// A diagonal over all words, of which each processor has an equal part.
     Diagonals(Step),

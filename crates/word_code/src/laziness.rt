@@ -1,4 +1,6 @@
-// How lazy a program may be.
+// How lazy a program may be. Words of 32, 52 or 64 bits leave room for some multiples of the modulus, and each bound that is larger
+// saves reductions (Harvey's lazy butterflies). The words that stay in A and B are kept as small as products leave them, since
+// another phase begins with them. `make_fast` is the crate's main call: a size of words, its laziness, and the program on words.
 
 ghost use Rattle.std.specs.Prelude.{◌≡◌, ◌^◌, ◌<◌, ◌≤◌, IfOk, IsTrue};
 ghost use Rattle.icode.specs.Program.{plain_program};

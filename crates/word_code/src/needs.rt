@@ -1,4 +1,5 @@
-// Which words of A and of B are added up.
+// Which words of A and of B are added up. Shoup's product takes any word, so words that are multiplied before anything else may be
+// as great as a register. Words that are added up first have to be smaller.
 
 ghost use Rattle.std.specs.Prelude.{◌≡◌, IfOk, None};
 ghost use Rattle.icode.specs.Plain.{plain_op, plain_stmt, plain_body};

@@ -1,4 +1,9 @@
-// The note of an operation.
+// The note of an operation. A residue is kept up to a multiple of the modulus m, as a word below a known multiple of m: its bound.
+// A product by a known factor is Shoup's: with the factor's quotient, factor * base / m rounded down, the high half of one product
+// tells which multiple of m the other one is to lose. What is left is below 2m, or 4m where that half is rough, and no reduction
+// follows. Sums and differences are those of Harvey's lazy butterflies (Journal of Symbolic Computation, 2014): they are not reduced
+// either, and a difference gets a multiple of m, its bias, so that it does not fall below 0. Only where a bound would pass the limit
+// of the words are registers reduced, before the operation.
 
 ghost use Rattle.std.specs.Prelude.{◌≡◌, ℕ, ◌+◌, ◌*◌, ◌^◌, ◌<◌, ◌≤◌, min, replicate};
 ghost use Rattle.std.specs.Prelude.{slice_set, IfOk, OnOk, IsTrue};

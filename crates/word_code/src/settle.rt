@@ -1,4 +1,6 @@
-// Bounds of registers, and the reductions that keep them.
+// Bounds of registers, and the reductions that keep them. A bound b says that a register is below b times the modulus. A reduction
+// takes half of that away where the register is not below it, so it halves the bound. Before a sum the greater of two bounds is
+// halved, until both together are within the limit of the words.
 
 ghost use Rattle.std.specs.Prelude.{◌≡◌, ◌+◌, ◌^◌, ◌<◌, slice_set, IfOk, OnOk};
 ghost use Rattle.word_code.specs.Quicken.{bound_at, greater, greatest_bound};

@@ -1,5 +1,5 @@
-// The only phase of the only processor: where the words of A are but multiplied from a statement on,
-// they may be as great as those of registers, and so may those of B.
+// The only phase of the only processor. Here all is known that comes after a statement: where from then on the words of A are only
+// multiplied, they are stored without a reduction and may be as great as those of registers. So may those of B.
 
 ghost use Rattle.std.specs.Prelude.{◌≡◌, ◌^◌, ◌<◌, ◌≤◌, length, IfOk, OnOk, IsTrue};
 ghost use Rattle.icode.specs.Limits.{is_stmt_within, is_body_within};

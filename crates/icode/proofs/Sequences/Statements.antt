@@ -19,16 +19,6 @@ range-last a (suc n) =
     let same : a + 1 + n ≡ a + suc n = omega arith in
     ap (λ l. a ∷ l) (range-last (a + 1) n) ∙ ap (λ k. a ∷ (range_with_len (a + 1) n ++ k ∷ [])) same
 
-actions_of-bodies : (n : ℕ) (steps : ℕ → List Step) → actions_of (flat_map steps (range_with_len 0 n))
-    ≡ bodies n (λ v. actions_of (steps v))
-actions_of-bodies zero steps = refl
-actions_of-bodies (suc n) steps =
-    let same : 0 + n ≡ n = omega arith in
-    ap (λ vs. actions_of (flat_map steps vs)) (range-last 0 n ∙ ap (λ k. range_with_len 0 n ++ k ∷ []) same)
-    ∙ ap actions_of (flat_map-append steps (range_with_len 0 n) (n ∷ []))
-    ∙ actions_of-append (flat_map steps (range_with_len 0 n)) (steps n ++ [])
-    ∙ ap₂ (λ xs ys. xs ++ ys) (actions_of-bodies n steps) (ap actions_of (append-nil (steps n)))
-
 module _ (p : Program) where
   steps-append : (xs ys : List Stmt) (vs : List ℕ) (q : ℕ) →
       body_steps p (xs ++ ys) vs q ≡ body_steps p xs vs q ++ body_steps p ys vs q

@@ -1,10 +1,10 @@
--- Passes whose copies are joined.
+-- Passes whose copies are coalesced.
 use Rattle.std.proofs.Common.{◌≡◌, ℕ, ◌+◌, ◌*◌, ◌%◌, ◌^◌, ◌<◌, ◌≤◌, refl, sym, ap, ap₂, ◌∙◌, subst, List, [], ◌∷◌, ◌++◌}
 use Rattle.std.proofs.Common.{All}
 use Rattle.std.proofs.lemmas.List.{map-append, length-map}
 use Rattle.std.proofs.lemmas.List.Elements.{All-nil, All-cons, All-head, All-tail}
 use Rattle.loop_merge.specs.Coalescing.Copies.{with_copies_coalesced, all_coalesced}
-use Rattle.loop_merge.specs.Coalescing.Laws.{CoalescedMean, CoalescedCost, CoalescedLoad, CoalescedArePlain}
+use Rattle.loop_merge.specs.Coalescing.Laws.{CoalescedMean, CoalescedCost, CoalescedArePlain}
 use Rattle.loop_merge.proofs.Coalescing.Joining.{all-alike}
 use Rattle.operators.proofs.Lists.{list_below-same}
 use Rattle.sigma_spl.specs.Shared.Costs.{work_cost}
@@ -26,10 +26,6 @@ coalesced_mean m n (p ∷ ps) x = nests-mean m n p _ ∙ ap (nests_on m n p) (co
 pub coalesced_cost : CoalescedCost
 coalesced_cost weight cost [] free = refl
 coalesced_cost weight cost (p ∷ ps) free = ap₂ (λ a b. a + b) ((all-alike p).costs weight cost free) (coalesced_cost weight cost ps free)
-
-pub coalesced_load : CoalescedLoad
-coalesced_load [] = refl
-coalesced_load (p ∷ ps) = ap₂ (λ a rest. a ∷ rest) (all-alike p).loads (coalesced_load ps)
 
 -- ---- programs
 

@@ -1,4 +1,4 @@
--- Passes whose copies are joined do the same, at the same counts, and a program can be made of them.
+-- Passes whose copies are coalesced do the same, at the same counts, and a program can be made of them.
 use Rattle.std.specs.Prelude.{◌≡◌, ℕ, List, map}
 use Rattle.loop_merge.specs.Coalescing.Copies.{all_coalesced}
 use Rattle.sigma_spl.specs.Shared.Costs.{pass_loads}
@@ -16,10 +16,6 @@ abbrev pub CoalescedCost : Type 0
 CoalescedCost =
     (weight : ℕ) (cost : PlainWork → ℕ) (ps : List (List PlainNest)) → CopiesAreFree cost →
     passes_cost weight cost (all_coalesced ps) ≡ passes_cost weight cost ps
-
--- pass by pass
-abbrev pub CoalescedLoad : Type 0
-CoalescedLoad = (ps : List (List PlainNest)) → map pass_loads (all_coalesced ps) ≡ map pass_loads ps
 
 abbrev pub CoalescedArePlain : Type 0
 CoalescedArePlain = (n m : ℕ) (ps : List (List PlainNest)) → ArePlainPasses n m ps → ArePlainPasses n m (all_coalesced ps)

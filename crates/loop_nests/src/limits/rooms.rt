@@ -1,3 +1,5 @@
+// Simplification that gives up. As `perm_algebra::simplify`, it writes an index function at a sum as a sum again. But it tests each
+// number on the way, and refuses where one would not fit 64 bits: then the permutation stays a pass of its own.
 ghost use Rattle.std.specs.Prelude.{◌≡◌, ℕ, ◌+◌, ◌*◌, ◌/◌, ◌%◌, ◌^◌, ◌<◌, List, true, false, slice_index};
 ghost use Rattle.std.specs.Option.{ForNone, ForSome};
 ghost use Rattle.index_fn.specs.Index.{mapping_of};
@@ -150,7 +152,7 @@ fn remainders(
     Ok(scale_and_add(s, rem, last))
 }
 
-// These multiples of the quotient and of the remainder by `s`, modulo `r * s`.
+// The sum of multiples of the quotient and of the remainder by `s`, modulo `r * s`.
 fn mixed(
     alloc: Global,
     counts: &[u64],
@@ -183,7 +185,7 @@ fn mixed(
     Ok(sum)
 }
 
-// These multiples of the quotient and of the remainder, modulo `n`.
+// The sum of multiples of the quotient and of the remainder, modulo `n`.
 fn mix(
     alloc: Global,
     counts: &[u64],

@@ -26,7 +26,7 @@ pub(crate) fn places_of(access: Access, nest: &Nest) -> &[Affine]
     }
 }
 
-/// These places become those on that side.
+/// The nest gets the given places on that side.
 pub(crate) fn put_places(access: Access, nest: &mut Nest, places: &mut Vec<Affine>)
     ensures { plain_nest nest.new
         ≡ with_places access (plain_sums places.old) (plain_nest nest.old) }

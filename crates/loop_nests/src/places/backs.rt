@@ -1,4 +1,5 @@
-// Back past permutations, to the factors of a diagonal.
+// Back past permutations, to the factors of a diagonal. A diagonal that comes after permutations goes into the pass before them.
+// An item of that pass is not yet at its last place, so its factor is found by the inverses of the permutations, the earliest first.
 ghost use Rattle.std.specs.Prelude.{◌≡◌, ℕ, ◌^◌, ◌<◌, ◌≤◌, IfOk};
 ghost use Rattle.index_fn.specs.Index.{mapping_of};
 ghost use Rattle.sigma_spl.specs.Merge.{backs_of, factor_places};

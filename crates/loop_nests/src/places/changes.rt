@@ -191,7 +191,7 @@ fn simplified_sums(
     Ok(Some(places))
 }
 
-// These places become those of the nests on that side.
+// The nests get the given places on that side.
 fn put_all_places(access: Access, nests: &mut [Nest], places: &mut [Vec<Affine>])
     ensures { (f : Mapping)
         → map plain_sums places.old ≡ map (places_by access f) (map plain_nest nests.old)

@@ -65,7 +65,7 @@ fn carried_sums(
     Ok(Some(places))
 }
 
-// The same nest with these factors after it, in other memory.
+// A copy of the nest with the factors after it, in other memory.
 fn multiplied_by(
     alloc: Global,
     factors: &Factors,

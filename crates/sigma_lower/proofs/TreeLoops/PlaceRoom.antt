@@ -1,4 +1,4 @@
--- Where scaled, joined and divided sums fit 64 bits.
+-- Where scaled, added and divided sums fit 64 bits.
 use Rattle.sigma_lower.proofs.Words.{chosen, ◌==◌, ℕ, ◌+◌, ◌-◌, ◌*◌, ◌/◌, ◌%◌, ◌^◌, ◌<◌, ◌≤◌, arith, sym, ◌∙◌, subst}
 use Rattle.sigma_lower.proofs.Words.{le-mul_of_pos_right, mul-le-mul_right, IsProper, Sum, constant, variable}
 use Rattle.sigma_lower.proofs.Words.{remainder, quotient, top, scaled, added, mods, ◌≡◌, CanAdd, HasRoomFor, Mapping}

@@ -92,7 +92,7 @@ pub(crate) fn multiplied(
     Ok(y)
 }
 
-// The same, where the numbers of items are words.
+// The diagonal times `x`, where the numbers of items are words.
 fn products(
     alloc: Global,
     m: &Modulus,

@@ -117,7 +117,7 @@ fn copy_times(alloc: Global, m: &Modulus, t: &Term, x: &[u64]) -> Result<Vec<u64
     }
 }
 
-// The same on each copy under the tensors of a path.
+// What the term does to each copy under the tensors of a path.
 #[cycle(terms)]
 fn under(
     alloc: Global,

@@ -1,4 +1,5 @@
-// Which routes the statements of a phase are to go.
+// Which routes the statements of a phase are to go. A statement that loads each word from the address where it stores one can work
+// in place: it stores into the array that it loads from, and the next statement loads from there. So fewer arrays are in the cache.
 
 ghost use Rattle.std.specs.Prelude.{◌≡◌, IfOk};
 ghost use Rattle.icode.specs.Plain.{plain_stmt, plain_body};

@@ -3,8 +3,8 @@ use Rattle.icode.specs.declared.event.Event.TheVariants.{Turn, Drain}
 use Rattle.icode.specs.Buffers.{buffered_completion}
 use Rattle.buffer_machine.specs.Next.{IsNextEvent}
 use Rattle.buffer_machine.specs.Running.{Running}
-use Rattle.buffer_machine.proofs.Whole.{phase_there, len_there, has_left, idle_at, idle_below, next_turn, next_drain}
-use Rattle.buffer_machine.proofs.Whole.{nothing_next, all_idle, few_left}
+use Rattle.buffer_machine.proofs.NextEvent.{all_idle, few_left, idle_at, idle_below, next_drain, next_turn, nothing_next}
+use Rattle.buffer_machine.proofs.Whole.{phase_there, len_there, has_left}
 use Rattle.buffer_machine.proofs.machine.BufMachine.next_event.Goals as goal
 
 pub returns-then-phase-len-clause-none : goal.returns-then-phase-len-clause-none
