@@ -12,7 +12,7 @@ use Rattle.icode.proofs.Lengths.{body_length}
 use Rattle.code_check.specs.Concatenated.{concatenated}
 use Rattle.code_check.specs.Live.{loop_before, pruned, pruned_before}
 
--- joined statements
+-- concatenated statements
 
 pub concatenated-nil : (body : PlainBody) → concatenated body NoStmts ≡ body
 concatenated-nil NoStmts = refl

@@ -1,4 +1,4 @@
--- Walks over lists that are joined.
+-- Walks over lists that are concatenated.
 use Rattle.std.proofs.Common.{◌≡◌, ℕ, zero, suc, ◌+◌, ◌-◌, ◌*◌, ◌<◌, ◌≤◌, ◌^◌, List, [], ◌∷◌, ◌++◌, Option, Some, None}
 use Rattle.std.proofs.Common.{flat_map, length, take, drop, drop-cons, add-one, get_or, true, refl, sym, ap, ◌∙◌, arith}
 use Rattle.std.proofs.Common.{suc-mul, ltb-true}

@@ -32,7 +32,7 @@ pub straight-more : (before : List KernelOp) (a : KernelOp) →
 straight-more [] a = refl
 straight-more (b ∷ before) a = ap (AndStmts (Do (op_of b))) (straight-more before a)
 
--- the statements of one more instruction
+-- the statements of one more operation
 pub straight-take : (xs : List KernelOp) (i : ℕ) (d : KernelOp) → i < length xs →
     straight_body (take (i + 1) xs) ≡ followed_by (straight_body (take i xs))
     (AndStmts (Do (op_of (get_or xs i d))) NoStmts)

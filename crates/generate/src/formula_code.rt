@@ -50,7 +50,7 @@ fn code_of_formula(alloc: Global, modulus: &Modulus, formula: &Spl) -> Result<Pr
     Ok(program)
 }
 
-// The passes of a formula, with copies joined, as one phase of one processor and one lane.
+// The passes of a formula, with copies coalesced, as one phase of one processor and one lane.
 fn merge_formula(alloc: Global, modulus: &Modulus, formula: &Spl) -> Result<Merged, NoMemory>
     ensures { IfOk result (λ g. plain_merged g ≡ formula_merged modulus.now formula.now) }
 {

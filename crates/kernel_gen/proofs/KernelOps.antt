@@ -18,7 +18,7 @@ use Rattle.kernel_gen.specs.KernelOps.{op_of, action_by, actions_by, code_effect
 use Rattle.kernel_gen.proofs.Below.{length-joined}
 use Rattle.icode.proofs.Sequences.Tiles.{slice_index-front}
 
--- the step of an instruction's operation, in any program, at any values of the loops and on any processor
+-- the step of an operation of a kernel, in any program, at any values of the loops and on any processor
 pub step-is : (p : PlainProgram) (i : KernelOp) (vs : List ℕ) (q : ℕ) →
     step_of p (op_of i) vs q ≡ plain (action_by p.lanes i)
 step-is p (Add r x y) vs q = refl
@@ -77,7 +77,7 @@ pub actions-cost : (weight lanes : ℕ) (code : List KernelOp) →
 actions-cost weight lanes [] = refl
 actions-cost weight lanes (i ∷ code) = ap₂ (λ a b. a + b) (instruction-cost weight lanes i) (actions-cost weight lanes code)
 
--- an instruction is one operation
+-- an operation of a kernel is one of a program
 pub actions-operations : (lanes : ℕ) (code : List KernelOp) → operations (actions_by lanes code) ≡ length code
 actions-operations lanes [] = refl
 actions-operations lanes (Add r x y ∷ code) = omega (arith, actions-operations lanes code)

@@ -43,7 +43,7 @@ length-code (i ∷ xs) ys = omega (arith, length-code xs ys)
 -- ---- what a piece does
 
 -- The code puts f of the inputs into its k outputs. It leaves the registers that are in use, uses none past its own, one for
--- each instruction in their order, multiplies by residues, and costs so much where a multiplication counts as `weight` operations.
+-- each operation in their order, multiplies by residues, and costs so much where a multiplication counts as `weight` operations.
 pub record DoesAt (m weight k price : ℕ) (ins : List ℕ) (next : ℕ) (made : Made) (f : Operator) : Type 0 where
   pub next_is : made.next ≡ next + length made.code
   pub kept : (g : Registers) (r : ℕ) → r < next → code_effect m made.code g r ≡ g r

@@ -1,4 +1,4 @@
--- What instructions stand for: operations of a program, and actions of the machine.
+-- What operations of kernels stand for: operations of a program, and actions of the machine.
 use Rattle.std.specs.Prelude.{ℕ, ◌<◌, List, [], ◌∷◌, map}
 use Rattle.icode.specs.Sequences.Lanes.{Registers, lane_effects, weighted_operations}
 use Rattle.icode.specs.declared.action.Action.{Action}
@@ -17,7 +17,7 @@ op_of (instructions.Mul r x c) = MulConst r x c
 abbrev pub nothing_on : ℕ → PlainProgram
 nothing_on lanes = record { size = 0; modulus = 0; procs = 0; line = 0; lanes = lanes; regs = 0; tables = []; phases = [] }
 
--- the action of an instruction on these lanes, and those of code: of a program, such operations see the lanes alone
+-- the action of an operation on these lanes, and those of code: of a program, such operations see the lanes alone
 abbrev pub action_by : ℕ → KernelOp → Action
 action_by lanes i = (step_of (nothing_on lanes) (op_of i) [] 0).action
 

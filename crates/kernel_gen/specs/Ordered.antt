@@ -1,4 +1,4 @@
--- Straight-line code whose instructions put one register after another.
+-- Straight-line code whose operations put one register after another.
 use Rattle.std.specs.Prelude.{◌≡◌, ℕ, ◌+◌, ◌<◌, List, [], ◌∷◌}
 use Rattle.kernel_gen.specs.declared.straight.KernelOp.{KernelOp}
 use Rattle.kernel_gen.specs.declared.straight.KernelOp.TheVariants.{Add, Sub, Neg, Mul}

@@ -1,4 +1,4 @@
-// Code as it is written, instruction by instruction.
+// Code as it is written, operation by operation.
 ghost use Rattle.std.specs.Prelude.{◌≡◌, ℕ, ◌+◌, ◌^◌, ◌<◌, ◌≤◌, ◌∷◌, [], length, vec_len, OnOk, IfOk};
 ghost use Rattle.kernel_gen.specs.Making.{term_make, factor_make};
 ghost use Rattle.kernel_gen.specs.Writing.{next_of, Appends};
@@ -16,7 +16,7 @@ pub(crate) struct Writer {
 }
 
 impl Writer {
-    /// The register that the next instruction makes.
+    /// The register that the next operation makes.
     pub(crate) fn next(&self) -> u64
         requires { self.now.inputs < 2 ^ 32 }
         ensures { result ≡ next_of self.now }

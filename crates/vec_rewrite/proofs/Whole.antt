@@ -95,7 +95,7 @@ rows-on_lanes p q v s a x =
     (blocks_of_product p n n columns (on_blocks q (v * s) (turn s v)) x refl (λ y. length-list_below _ _)
     ∙ resized p n (q * s * v) columns (together p q v s x) (sym wide))
 
--- a matrix on all lanes takes no notice of rows that were parted and joined again
+-- a matrix on all lanes takes no notice of rows that were parted and brought into groups again
 pub into_groups-again : (p q v s : ℕ) (a : Operator) (x : List ℕ) →
     on_lanes p q v s a (together p q v s (apart p q v s x)) ≡ on_lanes p q v s a x
 into_groups-again p q v s a x =

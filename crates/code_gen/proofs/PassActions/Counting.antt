@@ -247,7 +247,7 @@ module _ (weight : ℕ) (c : Target) (lanes : 0 < c.lanes) (modulus : 2 ≤ c.mo
 
 -- ---- the actions of straight-line code: there is one for each operation
 
--- each instruction is an operation
+-- each operation of a kernel is one of a program
 cost-is : (code : List KernelOp) → code_cost 1 code ≡ length code
 cost-is code = weight_of_one (actions_by 1 code) ∙ actions-operations 1 code
 
