@@ -179,7 +179,7 @@ fn emit_phases(
 /// The program of merged passes, phase by phase, from X by way of A and B to Y, on residues of this modulus, where a
 /// line has `line` words. It stands within the limits of programs, and its processors share no line in a phase; run to
 /// its end, it leaves what the passes make of its input, in equal shares of what they count.
-pub fn emit_on(
+pub(crate) fn emit_on(
     alloc: Global,
     modulus: &Modulus,
     line: u64,

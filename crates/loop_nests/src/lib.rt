@@ -10,7 +10,7 @@ mod placed;
 mod limits;
 
 pub use beside::sides;
-pub use nests::{alone, copied_nest, copying, copying_words, moved_nest, natural_nest};
+pub use nests::{alone, copying, copying_words, moved_nest, natural_nest};
 pub use places::{
     Change, Diagonal, factor_count, factor_places, gathered, multiplied, multiplied_in_order,
     scattered,

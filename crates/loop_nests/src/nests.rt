@@ -204,7 +204,7 @@ fn values(alloc: Global, size: u64, f: &Index) -> Result<Vec<u64>, NoMemory>
 }
 
 /// A copy of the nest, in other memory.
-pub fn copied_nest(alloc: Global, nest: &Nest) -> Result<Nest, NoMemory>
+pub(crate) fn copied_nest(alloc: Global, nest: &Nest) -> Result<Nest, NoMemory>
     ensures { IfOk result (λ z. plain_nest z ≡ plain_nest nest.now) }
 {
     let gathers = copied_sums(alloc, &nest.gathers)?;

@@ -22,7 +22,7 @@ use std::alloc::Global;
 
 /// The function `f` at the place `arg`, where the variable d runs below `counts[d]`, if every number on the way fits 64
 /// bits.
-pub fn simplify_in_room(
+pub(crate) fn simplify_in_room(
     alloc: Global,
     f: &Index,
     arg: &Affine,
