@@ -143,11 +143,6 @@ first_stmt items i x lt is = ap plain_body (drop_item items i x lt is)
 abbrev pub front_phases : List PlainBody → Option (List PlainBody) → Option (List PlainBody)
 front_phases made rest = option_map (λ bodies. made ++ bodies) rest
 
-front-phases-more : (made : List PlainBody) (body : PlainBody) (rest : Option (List PlainBody)) →
-    front_phases (made ++ body ∷ []) rest ≡ front_phases made (and_phases (Some body) rest)
-front-phases-more made body None = refl
-front-phases-more made body (Some rest) = ap Some (append_assoc made (body ∷ []) rest)
-
 pub no_phase : (lanes : ℕ) (made : List PlainBody) (body : PlainBody) (rest : List PlainBody)
     (whole : Option (List PlainBody)) → numbered_body lanes no_numbers body ≡ None →
     front_phases made (numbered_phases lanes (body ∷ rest)) ≡ whole → ◌≡◌ {A = Option (List PlainBody)} None whole

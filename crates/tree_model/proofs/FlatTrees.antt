@@ -12,6 +12,14 @@ use Rattle.tree_model.specs.Laws.{FlatCosts, FlatTrees}
 use Rattle.tree_model.specs.Whole.{IsTreeOf}
 use Rattle.tree_model.proofs.Sizes.{one_le_size_of, word_sizes_of}
 
+-- the root is no dim
+abbrev pub IsFlat : Breakdown → Type 0
+IsFlat (leaf d) = Unit {0}
+IsFlat (node Gt a b) = Unit {0}
+IsFlat (node Ct a b) = Unit {0}
+IsFlat (node Split a b) = Unit {0}
+IsFlat (node Dim a b) = ⊥
+
 -- no kind takes a transform of one size apart by dim
 pub no_dim : (kind : Kind) (r s : ℕ) → AllowsRule kind Dim r s → ⊥
 no_dim Dft r s h = h

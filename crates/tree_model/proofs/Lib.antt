@@ -5,7 +5,6 @@ pub mod Products
 pub mod OrderLaws
 pub mod PassLaws
 pub mod PowerOfTwo
-pub mod TrafficLaws
 pub mod InverseTrees
 pub mod InversePowers
 pub mod InverseCosts
@@ -15,7 +14,6 @@ pub mod FlatTrees
 pub mod WholeTrees
 pub mod SeveralParts
 pub mod Sharing
-pub mod WholeTraffic
 pub mod Standing
 pub mod ChosenParts
 pub mod NodesAsked

@@ -20,13 +20,6 @@ transform-below : (kind : Kind) (m n root : ℕ) (x : List ℕ) (k : ℕ) → 0 
     slice_index (transform kind m n root x) k < m
 transform-below kind m n root x k modulus below = rw (at-matrix_times m n (entry_of kind m n root) x k below) (mod-lt _ modulus)
 
-transform-same : (kind : Kind) (m n root : ℕ) (x y : List ℕ) → AreAlike m n x y →
-    transform kind m n root x ≡ transform kind m n root y
-transform-same kind m n root x y h =
-    list_below-same n _ _ (λ k below. same-sum_below m n _ _ (λ l within.
-    let c = entry_of kind m n root k l in
-    sym (mul-mod_second c (slice_index x l) m) ∙ ap (λ z. (c * z) % m) (h l within) ∙ mul-mod_second c (slice_index y l) m))
-
 pub trees-below : (m : ℕ) (trees : PlainTrees) (x : List ℕ) (k : ℕ) → 0 < m → k < trees_size trees →
     slice_index (trees_on m trees x) k < m
 trees-below m (single kind root tree) x k modulus below = transform-below kind m (size_of tree) root x k modulus below

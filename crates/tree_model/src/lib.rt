@@ -13,7 +13,6 @@ mod costs;
 mod inverse;
 mod laws;
 mod order;
-mod passes;
 mod tree;
 
 pub use admission::{admissible, allows_leaf, allows_node, allows_split};
@@ -22,5 +21,4 @@ pub use costs::{closing_cost, cost, is_kernel, leaf_cost, mul_cost, node_cost, n
 pub use inverse::inverse_trees;
 pub use laws::{nodes_do_what_is_asked, passes_do_the_cost, trees_are_made_of_parts};
 pub use order::before;
-pub use passes::{loads, stores};
 pub use tree::{Rule, Tree};

@@ -24,6 +24,7 @@ run; dft 11 mod 23 root 2 budget 242/0 1 0 0 0 0 0 0 0 0 0/; 0; 1 2 4 8 16 9 18 
 run; dft 4 mod 17 root 4/0001 2 3 4; 0; 10 7 15 6/; -
 run; dft 65521 mod 17 root 1 budget 10000000000/; 0; -; -
 sample; dft 16 mod 17 root 3/; 0; sum 3/operations 88/loads 32/stores 32/; -
+sample; dft 65536 mod 65537 root 3/; 0; sum 7978/operations 1572864/loads 393216/stores 393216/; -
 sample --seed 0; wht 65536 mod 65536/; 0; sum 32768/operations 1048576/loads 917504/stores 917504/; -
 run; dft 4 mod 17 root 4/1 2 3 4/; 0; 10 7 15 6/; -
 run; wht 8 mod 10 unroll 2/1 2 3 4 5 6 7 8; 0; 6 6 2 0 4 0 0 0/; -

@@ -36,6 +36,18 @@ dft 210 mod 211 root 2 unroll 2: 6510 3360 840
 dft 240 mod 241 root 7 unroll 64: 3743 720 720
 dft 251 mod 503 root 2: 126002 63001 251
 dft 256 mod 257 root 3 unroll 64: 2848 512 512
+dft 11 mod 23 root 2: 242 121 11
+dft 30 mod 31 root 3: 346 90 90
+dft 4 mod 17 root 4 procs 2: 12 8 8
+dft 4 mod 17 root 4 line 2 lanes 2: 12 12 12
+wht 4 mod 5 line 2 lanes 2: 8 16 16
+wht 1024 mod 1024 procs 2 line 4 lanes 2: 10240 8192 8192
+dft 4 mod 17 root 4 weight 5: 13 4 4
+dft 6 mod 7 root 3 weight 5: 58 6 6
+dft 4 mod 10 root 9 weight 5: 9 4 4
+dft 16 mod 17 root 2 unroll 16: 81 16 16
+dft 16 mod 17 root 2 unroll 16 weight 2: 89 16 16
+dft 4 mod 17 root 4 procs 2 weight 1000: 4008 8 8
 wht 1 mod 2: 0 1 1
 wht 2 mod 2: 2 2 2
 wht 4 mod 5: 8 4 4

@@ -20,6 +20,17 @@ run; dft 4x2x2 mod 17 root 4x16x1 procs 2 line 2 lanes 2/1 2 3 4 5 6 7 8 9 10 11
 run --schedule turns:1,0,1; dft 4x2x2 mod 17 root 4x16x1 procs 2/1 2 3 4 5 6 7 8 9 10 11 12 13 14 15 16/; 0; 0 0 1 1 10 10 0 0 2 2 0 0 11 11 0 0/; -
 run; dft 2x3x5 mod 31 root 30x5x2 unroll 30/1 2 3 4 5 6 7 8 9 10 11 12 13 14 15 16 17 18 19 20 21 22 23 24 25 26 27 28 29 30/; 0; 0 30 10 22 2 22 0 0 0 0 14 0 0 0 0 23 0 0 0 0 0 0 0 0 0 0 0 0 0 0/; -
 run; dft 2x3x5 mod 31 root 30x5x2 unroll 29/1 2 3 4 5 6 7 8 9 10 11 12 13 14 15 16 17 18 19 20 21 22 23 24 25 26 27 28 29 30/; 0; 0 30 10 22 2 22 0 0 0 0 14 0 0 0 0 23 0 0 0 0 0 0 0 0 0 0 0 0 0 0/; -
+sample; dft 2x2 mod 17 root 16x16/; 0; sum 1/operations 8/loads 4/stores 4/; -
+sample; dft 2x2 mod 17 root 16x16 procs 2/; 0; sum 1/operations 8/loads 8/stores 8/; -
+sample; dft 2x3 mod 7 root 6x2/; 0; sum 6/operations 26/loads 6/stores 6/; -
+sample; dft 3x4 mod 13 root 3x5 unroll 2/; 0; sum 2/operations 108/loads 60/stores 36/; -
+sample; dft 8x6 mod 7 root 6x3/; 0; sum 1/operations 364/loads 96/stores 96/; -
+sample; dft 2x3x5 mod 31 root 30x5x2 weight 5/; 0; sum 5/operations 890/loads 90/stores 90/; -
+sample; dft 2x2x2x2 mod 15 root 4x11x14x1/; 0; sum 2/operations 80/loads 32/stores 32/; -
+sample; dft 4x4 mod 17 root 4x13 lanes 2 unroll 2/; 0; sum 6/operations 96/loads 96/stores 96/; -
+sample; dft 4x4 mod 17 root 4x13 procs 2 line 2 lanes 2/; 0; sum 6/operations 72/loads 64/stores 64/; -
+sample; dft 4x2x2 mod 17 root 4x16x1 procs 2/; 0; sum 13/operations 68/loads 32/stores 32/; -
+sample; dft 4x2x2 mod 17 root 4x16x1 lanes 2/; 0; sum 13/operations 68/loads 64/stores 64/; -
 sample; dft 4x4 mod 17 root 4x13 procs 2 line 2 lanes 2 unroll 2/; 0; sum 6/operations 96/loads 96/stores 96/; -
 sample --seed 7; dft 9x2 mod 19 root 4x18 unroll 2 weight 5/; 0; sum 7/operations 756/loads 126/stores 54/; -
 sample; dft 2x3 mod 7 root 6x2 unroll 6/; 0; sum 6/operations 26/loads 6/stores 6/; -

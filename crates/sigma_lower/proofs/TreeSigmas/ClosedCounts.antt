@@ -11,7 +11,7 @@ use Rattle.tree_model.specs.Whole.{IsTreeOf}
 use Rattle.tree_model.specs.WholePasses.{pass_cost_in}
 use Rattle.tree_model.proofs.PassLaws.{IsPlainAtEnd, IsPlainPass}
 use Rattle.tree_model.proofs.WholeCosts.{whole_plain}
-use Rattle.tree_model.proofs.WholeTraffic.{IsFlat}
+use Rattle.tree_model.proofs.FlatTrees.{IsFlat}
 
 -- ---- a diagonal more in the last pass
 
