@@ -12,10 +12,6 @@ use Rattle.operators.proofs.Sums.{same-sum_below}
 use Rattle.tree_model.specs.Breakdown.{size_of}
 use Rattle.tree_model.specs.Trees.{PlainTrees, single, tensor, trees_size, trees_on}
 
--- the lists have the same residues in the first n places
-abbrev AreAlike : ℕ → ℕ → List ℕ → List ℕ → Type 0
-AreAlike m n x y = (i : ℕ) → i < n → slice_index x i % m ≡ slice_index y i % m
-
 transform-below : (kind : Kind) (m n root : ℕ) (x : List ℕ) (k : ℕ) → 0 < m → k < n →
     slice_index (transform kind m n root x) k < m
 transform-below kind m n root x k modulus below = rw (at-matrix_times m n (entry_of kind m n root) x k below) (mod-lt _ modulus)
