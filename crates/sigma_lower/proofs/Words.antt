@@ -139,7 +139,7 @@ pub use Rattle.sigma_lower.specs.TreeLoops.Merge.{passes_of_terms, scatter_place
 pub use Rattle.sigma_lower.specs.TreeLoops.Nests.{loop_of, taken_of}
 pub use Rattle.sigma_lower.specs.TreeLoops.Placed.{AreCounts, ArePlacesLimited, Fits, IsCarried, IsLimitedPass, IsTame}
 pub use Rattle.sigma_lower.specs.TreeLoops.Placed.{all_simplified, diagonal_places, place_sum}
-pub use Rattle.sigma_lower.specs.TreeLoops.SharedPasses.Shared.{AllFramed, IsFramed, framed}
+pub use Rattle.sigma_lower.specs.TreeLoops.SharedPasses.Framed.{AllFramed, IsFramed, framed}
 pub use Rattle.sigma_lower.specs.TreeTerms.Good.{AreCoprime, AreGood, IsGood, IsGoodCore, IsGoodPiece}
 pub use Rattle.vec_rewrite.specs.Laws.{IsVecOf}
 pub use Rattle.sigma_lower.specs.TreeTerms.Root.{in_phases, left_core, left_path, left_terms, lines_dealt, lines_moved}

@@ -4,7 +4,7 @@ use Rattle.sigma_lower.proofs.Words.{arith, subst, ◌==◌, if◌then◌else◌
 use Rattle.sigma_lower.proofs.Words.{item_of, values_of, nest_of, PlainWork, tile, work_size, IsFramed, within, Tensor}
 use Rattle.sigma_lower.proofs.Words.{Blocks, Columns, Path, count_of, AreInRange, if_several, vectors_of, framed}
 use Rattle.sigma_spl.specs.Shared.Machine.{framed_lanes}
-use Rattle.sigma_lower.specs.TreeLoops.SharedPasses.Shared.{HasLanes}
+use Rattle.sigma_lower.specs.TreeLoops.SharedPasses.Framed.{HasLanes}
 use Rattle.sigma_spl.specs.Shared.Running as running
 
 -- ---- counts

@@ -9,7 +9,7 @@ use Rattle.sigma_spl.specs.Shared.Owners.{AllOwn, AllShared, FirstOwns}
 use Rattle.sigma_lower.proofs.TreeLoops.PassLists.{all-split}
 use Rattle.sigma_lower.proofs.TreeSigmas.Known.{AllKnown, IsKnown}
 use Rattle.sigma_lower.proofs.TreeSigmas.Places.{load-is, store-is}
-use Rattle.sigma_lower.specs.TreeLoops.SharedPasses.Shared as shared
+use Rattle.sigma_lower.specs.TreeLoops.SharedPasses.Framed as shared
 
 -- the only nest of a pass
 pub only-nest : (z y : PlainNest) → Contains (z ∷ []) y → z ≡ y

@@ -21,7 +21,7 @@ use Rattle.sigma_lower.proofs.TreeSigmas.Loops.{IsCount, counts-drop, length-dro
 use Rattle.sigma_lower.proofs.TreeSigmas.Loops.{path-weight, weight-small}
 use Rattle.sigma_lower.proofs.TreeSigmas.Places.{taken-is, moves-vectors, finds-factors, residues-of}
 use Rattle.sigma_lower.proofs.TreeTerms.Sizes.{within_whole}
-use Rattle.sigma_lower.specs.TreeLoops.SharedPasses.Shared.{HasLanes}
+use Rattle.sigma_lower.specs.TreeLoops.SharedPasses.Framed.{HasLanes}
 use Rattle.sigma_spl.specs.Trees.{IsNoCopy}
 
 -- ---- work

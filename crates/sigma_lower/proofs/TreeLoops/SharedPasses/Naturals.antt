@@ -4,7 +4,7 @@ use Rattle.sigma_lower.proofs.Words.{◌∷◌, ◌++◌, if◌then◌else◌, s
 use Rattle.sigma_lower.proofs.Words.{PlainWork, kernel, rows, tile, work_size, IsGoodWork, within, size-within, is-one}
 use Rattle.sigma_lower.proofs.Words.{Tensor, Blocks, Columns, Path, count_of, size_under, copies_of, place}
 use Rattle.sigma_lower.proofs.Words.{size_under-copies, AreBlocks, if_several, framed}
-use Rattle.sigma_lower.specs.TreeLoops.SharedPasses.Shared.{HasLanes}
+use Rattle.sigma_lower.specs.TreeLoops.SharedPasses.Framed.{HasLanes}
 
 -- ---- a tensor that may be left out
 

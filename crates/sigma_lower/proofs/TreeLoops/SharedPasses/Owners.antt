@@ -3,7 +3,7 @@ use Rattle.sigma_lower.proofs.Words.{◌≡◌, ℕ, ◌≤◌, arith, refl, sym
 use Rattle.sigma_lower.proofs.Words.{Target, PlainPass, Merging, through, new_pass, scattered, multiplied, at_last}
 use Rattle.sigma_lower.proofs.Words.{gather_place, scatter_place, merge_term, gath, scat, diag, nest, PlainWork}
 use Rattle.sigma_lower.proofs.Words.{work_size, Path, place, IsOwner}
-use Rattle.sigma_lower.specs.TreeLoops.SharedPasses.Shared.{Owns, AllOwn, FirstOwns, AllShared, ArePhasesShared}
+use Rattle.sigma_lower.specs.TreeLoops.SharedPasses.Framed.{Owns, AllOwn, FirstOwns, AllShared, ArePhasesShared}
 use Rattle.sigma_lower.proofs.TreeLoops.PassLists.{AllPasses, all-append, all-last}
 use Rattle.sigma_lower.proofs.TreeLoops.TreePasses.{at_last-append}
 use Rattle.sigma_lower.proofs.TreeLoops.SharedPasses.Shares.{OwnsNatural}

@@ -10,7 +10,7 @@ use Rattle.sigma_lower.proofs.Words.{wrapped, unit_of, within, size-within, step
 use Rattle.sigma_lower.proofs.Words.{place, Rule, RuleHasParts, RootHasParts, CanShareLayout, Layout, work, by}
 use Rattle.sigma_lower.proofs.Words.{layout_size, IsGoodLayout, unequal, in_phases, within-wide}
 use Rattle.sigma_lower.proofs.TreeTerms.Permuted.{StaysBelow}
-use Rattle.sigma_lower.specs.TreeLoops.SharedPasses.Shared.{ArePhasesShared}
+use Rattle.sigma_lower.specs.TreeLoops.SharedPasses.Framed.{ArePhasesShared}
 use Rattle.sigma_lower.proofs.TreeLoops.Emitted.{as_lowered, emitted, emitted-lowered}
 use Rattle.sigma_lower.proofs.TreeLoops.TreePasses.{back}
 use Rattle.sigma_lower.proofs.TreeLoops.Walks.{Brings, IsLaw, Keeps, Point, RightKeeps, begun, brings-law, done, ready}
