@@ -11,7 +11,7 @@ use crate::outputs::put_output;
 use crate::site::{Item, Site};
 use crate::statements::put_op;
 use icode::program::Stmt;
-use kernel_gen::{KernelOp, Kernel};
+use kernel_gen::{Kernel, KernelOp};
 use memory::NoMemory;
 use sigma_spl::Nest;
 use std::alloc::Global;

@@ -9,8 +9,8 @@ ghost use Rattle.commands.specs.Input.Ends.{EndsCleanly};
 ghost use Rattle.commands.specs.Input.Outcomes.{SourceMeets};
 ghost use Rattle.commands.specs.Equations.Requests.{work_for};
 
-use crate::streams::{Prepared, stream};
 use crate::documents::good_program;
+use crate::streams::{Prepared, stream};
 use io_edge::{Feed, Sink, Source};
 use listing_text::print_listing;
 use matrix_meaning::Request;

@@ -16,16 +16,17 @@ ghost use Rattle.commands.specs.Equations.Requests.{outcomes_by_request, work_fo
 mod check;
 mod convolutions;
 mod data;
+mod documents;
 mod formulas;
 mod input;
 mod listings;
 mod plans;
 mod sample;
 mod streams;
-mod documents;
 
 pub use convolutions::convolve;
 use data::{run, trace};
+use documents::text_of;
 pub use formulas::by_formula;
 use input::ask;
 pub use input::asked;
@@ -34,7 +35,6 @@ pub use listings::exec;
 use matrix_meaning::Request;
 use spiral_words::{Command, Document, RequestCommand, Status};
 use std::alloc::Global;
-use documents::text_of;
 
 // Writes the text of a document.
 fn write_text<O: Sink>(

@@ -1,8 +1,8 @@
 // What the words of a call of `spiral-fast` ask for.
 mod app;
+mod asked;
 mod form;
 mod line;
 mod names;
-mod asked;
 
 pub use asked::{Options, Refusal, options_of};

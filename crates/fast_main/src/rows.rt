@@ -7,7 +7,7 @@ ghost use Rattle.fast_main.specs.Rows.{row_of};
 ghost use Rattle.fast_main.specs.Status.{code_of, note_line};
 
 use crate::Status;
-use io_edge::{StatusRow, Sink, WriteFault, row};
+use io_edge::{Sink, StatusRow, WriteFault, row};
 
 impl Status {
     // The row of a status.

@@ -11,4 +11,4 @@ mod transform;
 mod writer;
 
 pub use kernels::{dft_kernel, kernel};
-pub use straight::{KernelOp, Kernel};
+pub use straight::{Kernel, KernelOp};

@@ -1,12 +1,12 @@
 //! Lanes from loops: rounds of the innermost loop, one after the other, become lanes of one round.
 #![tactic(auto)]
 
-mod ways;
 mod columns;
 mod lanes;
 mod loads;
 mod loops;
 mod rows;
 mod tiles;
+mod ways;
 
 pub use lanes::{lane_loops, laned_leaves_the_same};

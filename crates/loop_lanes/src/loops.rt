@@ -6,8 +6,8 @@ ghost use Rattle.nests.specs.Rounds.{first_store, straight};
 ghost use Rattle.loop_lanes.specs.Lanes.{last_count, narrowed};
 ghost use Rattle.loop_lanes.specs.Views.{plain_ops, stored_reference, body_made, round_if, nest_if};
 
-use crate::ways::laned_ops;
 use crate::columns::{ArrayReference, Group, count_stores};
+use crate::ways::laned_ops;
 use icode::program::{Op, Stmt};
 use memory::NoMemory;
 use nests::{are_fresh, innermost, push_counts};

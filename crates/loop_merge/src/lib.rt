@@ -3,8 +3,8 @@
 //! programs are joined.
 #![tactic(auto)]
 
-mod copies;
 mod coalescing;
+mod copies;
 mod joined_passes;
 mod merging;
 mod multiplied_passes;

@@ -4,15 +4,15 @@
 
 mod beside;
 mod lifted;
-mod nests;
-mod places;
-mod placed;
 mod limits;
+mod nests;
+mod placed;
+mod places;
 
 pub use beside::sides;
+pub use limits::{Limits, carry_within, is_within, simplify_within};
 pub use nests::{alone, copying, copying_words, moved_nest, natural_nest};
 pub use places::{
     Change, Diagonal, factor_count, factor_places, gathered, multiplied, multiplied_in_order,
     scattered,
 };
-pub use limits::{Limits, carry_within, is_within, simplify_within};

@@ -2,9 +2,9 @@
 //! how rules rewrite them.
 #![tactic(auto)]
 
-mod halves;
 mod build;
 mod distribute;
+mod halves;
 mod places;
 mod plain;
 mod rewriting;
@@ -13,8 +13,8 @@ ghost use Rattle.std.specs.Prelude.{◌≡◌};
 ghost use Rattle.spl_ast.specs.Formula.{size_of};
 ghost use Rattle.spl_ast.specs.Shape.{IsShaped, IsSize};
 
-pub use halves::balance;
 pub use distribute::Distribute;
+pub use halves::balance;
 pub use memory::NoMemory;
 pub use places::{by_places, turned};
 pub use plain::transformed;

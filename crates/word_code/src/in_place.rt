@@ -1,10 +1,10 @@
 // Passes in place: arrays of a program on words are shared, where each load still finds its words.
-mod routing;
 mod homes;
 pub mod laws;
 mod places;
 mod reroute;
 mod routes;
+mod routing;
 mod share;
 mod walk;
 

@@ -1,10 +1,10 @@
 //! Loop code on words: lazy residues, products by known factors, and passes in place.
 #![tactic(auto)]
 
-pub mod laziness;
 mod in_place;
 mod input;
 pub mod laws;
+pub mod laziness;
 mod needs;
 mod note;
 pub mod program;

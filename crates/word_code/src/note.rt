@@ -17,7 +17,7 @@ ghost use Rattle.word_code.specs.Setting.{IsSettingWithin, AreBoundsWithin, sett
 ghost use Rattle.word_code.specs.Setting.{note_after, note_of_factor, noted_in};
 ghost use Rattle.word_code.specs.Views.{lazy_of, plain_note};
 
-use crate::program::{Note, Setting, Laziness};
+use crate::program::{Laziness, Note, Setting};
 use crate::settle::{bound_of, greatest_of, put_bound, settle};
 use icode::program::{Array, Op};
 use memory::NoMemory;

@@ -16,7 +16,7 @@ ghost use Rattle.word_code.specs.Views.{lazy_of, plain_word_stmt, plain_word_bod
 ghost use Rattle.word_code.specs.Views.{plain_word_phases, plain_word_program};
 
 use crate::note::{note_of, quotient};
-use crate::program::{Setting, Laziness, WordProgram, WordStmt};
+use crate::program::{Laziness, Setting, WordProgram, WordStmt};
 use crate::single::quicken_alone;
 use icode::copies::copied_tables;
 use icode::program::{Program, Stmt};
@@ -184,7 +184,11 @@ fn words_of(alloc: Global, laziness: Laziness, program: &Program) -> Result<Word
 /// The program on words. Where the program fits it leaves the residues that the program leaves, for every
 /// vector of residues and every order of turns; where no processor touches a line that another writes, that
 /// order is free.
-pub fn quicken(alloc: Global, laziness: Laziness, program: &Program) -> Result<WordProgram, NoMemory>
+pub fn quicken(
+    alloc: Global,
+    laziness: Laziness,
+    program: &Program,
+) -> Result<WordProgram, NoMemory>
     requires lazy { IsLazyWithin (lazy_of laziness) program.now.modulus }
     requires small { laziness.limit < 2 ^ 32 }
     requires half { laziness.half ≤ 2 ^ 32 }

@@ -10,7 +10,7 @@ ghost use Rattle.word_code.specs.Setting.{quick_needed_in, quick_alone_in};
 ghost use Rattle.word_code.specs.Views.{lazy_of, plain_word_stmt, plain_word_body};
 
 use crate::needs::{Needs, needs_of_each};
-use crate::program::{Setting, Laziness, WordStmt};
+use crate::program::{Laziness, Setting, WordStmt};
 use crate::quicken::quicken_stmt;
 use icode::program::Stmt;
 use memory::NoMemory;

@@ -4,7 +4,7 @@ ghost use Rattle.tree_model.specs.Breakdown.{breakdown_of};
 ghost use Rattle.tree_model.specs.Chosen.{IsWholeTree};
 
 use crate::contexts::{context, tree_of};
-use kernel_gen::{KernelOp, Kernel, kernel};
+use kernel_gen::{Kernel, KernelOp, kernel};
 use memory::NoMemory;
 use std::alloc::{AllocError, Global};
 use std::fmt::Write;

@@ -15,8 +15,8 @@ ghost use Rattle.loop_nests.specs.Places.Sides.{IsSideWithin, can_change, change
 ghost use Rattle.loop_nests.specs.Places.Sums.{all_limits, are_limited, can_lead_all, led_by};
 ghost use Rattle.loop_nests.specs.Places.Views.{plain_sums};
 
-use crate::places::access::{Access, places_of, put_places};
 use crate::limits::{Limits, simplify_within};
+use crate::places::access::{Access, places_of, put_places};
 use index_fn::Index;
 use memory::NoMemory;
 use perm_algebra::Affine;

@@ -15,9 +15,9 @@ ghost use Rattle.loop_nests.specs.Places.Sums.{are_limited, can_carry_all, carri
 ghost use Rattle.loop_nests.specs.Places.Views.{mappings_of, multiplied_by, plain_sums};
 ghost use Rattle.loop_nests.specs.declared.places.access.Access.TheVariants.{Stores};
 
+use crate::limits::{Limits, carry_within};
 use crate::nests::copied_nest;
 use crate::places::changes::limits_of;
-use crate::limits::{Limits, carry_within};
 use index_fn::Index;
 use memory::NoMemory;
 use perm_algebra::Affine;

@@ -7,7 +7,7 @@ ghost use Rattle.spiral_words.specs.Statuses.Rows.{row_of};
 ghost use Rattle.spiral_words.specs.Statuses.Status.{code_of, note_line};
 
 use crate::statuses::Status;
-use io_edge::{StatusRow, Sink, WriteFault, row};
+use io_edge::{Sink, StatusRow, WriteFault, row};
 use request_text::Field;
 
 // Which field is out of its limits.

@@ -13,9 +13,9 @@ ghost use Rattle.word_code.specs.InPlace.Sharing.{is_full, are_full, is_loop, ar
 ghost use Rattle.word_code.specs.InPlace.Sharing.{routes_of, in_place};
 ghost use Rattle.word_code.specs.InPlace.Laws.{LeavesAlike};
 
-use crate::in_place::routing::choose;
 use crate::in_place::reroute::reroute;
 use crate::in_place::routes::Route;
+use crate::in_place::routing::choose;
 use crate::in_place::walk::may_go;
 use crate::program::WordProgram;
 use icode::program::{Program, Stmt};
