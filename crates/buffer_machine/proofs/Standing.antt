@@ -21,7 +21,7 @@ use Rattle.icode.proofs.Residues.{AreBelow}
 use Rattle.icode.proofs.Runs.{open_at, not_open}
 use Rattle.icode.proofs.StoreCounts.{stores_first}
 use Rattle.icode.proofs.Words.{length-words_at}
-use Rattle.icode.proofs.Sequences.Placing.{length-with_words}
+use Rattle.icode.proofs.SequenceLemmas.Placing.{length-with_words}
 use Rattle.buffer_machine.specs.Backlog.{Backlog}
 use Rattle.buffer_machine.specs.Drains.{IsWritten}
 use Rattle.buffer_machine.specs.Stand.{Stand, backlog_at, waits_of, buffered_of, after_action, acted_stand, cleared}

@@ -8,7 +8,7 @@ use Rattle.icode.specs.Buffers.{Waiting, overlaid}
 use Rattle.icode.specs.Machine.{words_at, with_words}
 use Rattle.icode.proofs.LaneSteps.{words_at_more, with_words_more}
 use Rattle.icode.proofs.Words.{words_at-agree, with_words-other, slice_index-agree, length-words_at}
-use Rattle.icode.proofs.Sequences.Placing.{length-with_words, slice_index-words_at}
+use Rattle.icode.proofs.SequenceLemmas.Placing.{length-with_words, slice_index-words_at}
 use Rattle.buffer_machine.specs.Backlog.{window}
 use Rattle.buffer_machine.specs.Waits.{OldestFits, NoneCovers}
 

@@ -22,7 +22,7 @@ use Rattle.commands.specs.Equations.Check.{fitting}
 use Rattle.commands.specs.Equations.Front.{Work, staged}
 use Rattle.commands.specs.Equations.Works.{judging}
 use Rattle.commands.specs.Input.Outcomes.{Meets, SourceMeets}
-use Rattle.commands.proofs.Documents.{generate_refusal}
+use Rattle.commands.proofs.DocumentLemmas.{generate_refusal}
 use Rattle.commands.proofs.Inputs.StageLemmas.{stage_refused, stage_told}
 use Rattle.io_edge.proofs.ToldLemmas.{over_left}
 use Rattle.commands.proofs.Inputs.OutcomeLemmas.{answered_meets, broken_meets, cut_meets, meets_nothing}

@@ -1,10 +1,10 @@
-pub mod Convolutions
-pub mod Listings
-pub mod Formulas
+pub mod ConvolutionLemmas
+pub mod ListingLemmas
+pub mod FormulaLemmas
 pub mod Inputs
 pub mod CheckLemmas
 pub mod CountLemmas
-pub mod Documents
+pub mod DocumentLemmas
 pub mod Performs
 pub mod Programs
 pub mod Requests

@@ -41,7 +41,7 @@ use Rattle.commands.specs.Programs.{IsProgramFor}
 use Rattle.commands.specs.Input.Commands.{first_stranger}
 use Rattle.commands.specs.Input.Orders.{procs_in}
 use Rattle.commands.specs.Input.Outcomes.{SourceMeets}
-use Rattle.commands.proofs.Documents.{with_tree}
+use Rattle.commands.proofs.DocumentLemmas.{with_tree}
 use Rattle.commands.proofs.Programs.{IsGoodCode, code_made, good_code, program_modulus, program_procs, program_size}
 use Rattle.commands.proofs.Requests.{limits}
 use Rattle.commands.proofs.Inputs.DataLemmas.{lines_equal, turns_below}

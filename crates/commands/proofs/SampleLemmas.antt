@@ -28,7 +28,7 @@ use Rattle.matrix_meaning.specs.Asked.{asked_of}
 use Rattle.spiral_words.specs.declared.Document.TheVariants as document
 use Rattle.commands.specs.Equations.Requests.{IsDocument}
 use Rattle.commands.specs.Equations.Sample.{sum_for}
-use Rattle.commands.proofs.Documents.{document_of, with_tree}
+use Rattle.commands.proofs.DocumentLemmas.{document_of, with_tree}
 use Rattle.commands.specs.Sample.{sample_vector, weighted_sum, sample_text, AreCountable}
 use Rattle.commands.proofs.Programs.{IsGoodCode}
 use Rattle.runs.specs.Stream.{HasNoStranger}

@@ -1,4 +1,4 @@
-pub mod Options
+pub mod OptionLemmas
 pub mod Faithful
 pub mod Existence
 pub mod Laned

@@ -13,8 +13,8 @@ use Rattle.icode.specs.Lengths.{len_of_body}
 use Rattle.icode.specs.Machine.{Local, effects}
 use Rattle.icode.specs.Plain.{PlainBody, PlainProgram, Loop, Do, NoStmts, AndStmts}
 use Rattle.icode.proofs.Bools.{both_true}
-use Rattle.icode.proofs.Sequences.ByLane.{lists_follow}
-use Rattle.icode.proofs.Sequences.Stores.{length-registers}
+use Rattle.icode.proofs.SequenceLemmas.ByLane.{lists_follow}
+use Rattle.icode.proofs.SequenceLemmas.Stores.{length-registers}
 use Rattle.icode.proofs.Lengths.{stmt_length, body_length}
 use Rattle.fused_loops.specs.declared.blocks.Block.{Block}
 use Rattle.nests.specs.Nests.{counts_in, round_in}

@@ -12,7 +12,7 @@ use Rattle.icode.specs.declared.action.Action.TheVariants.{Load, Store, Zero, Ad
 use Rattle.icode.specs.Fresh.{HasFactors, loaded_words, read_registers, put_registers}
 use Rattle.icode.specs.Machine.{Local, with_words, lane_by_lane, transposed, register_of, register_put}
 use Rattle.icode.specs.Machine.{memory_after, value_put, effect, stored_words}
-use Rattle.icode.proofs.Sequences.Placing.{length-with_words, length-lane_by_lane, length-mapped}
+use Rattle.icode.proofs.SequenceLemmas.Placing.{length-with_words, length-lane_by_lane, length-mapped}
 use Rattle.icode.proofs.Lines.{Contains-head, Contains-tail, Contains-nil, Contains-range}
 use Rattle.icode.proofs.Words.{words_at-agree, length-words_at, with_words-agree, slice_index-agree}
 

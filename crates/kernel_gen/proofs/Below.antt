@@ -5,7 +5,7 @@ use Rattle.std.specs.Prelude.{All, slice_index}
 use Rattle.std.proofs.lemmas.List.FromFn.{fill_by_all}
 use Rattle.operators.specs.Operator.{gather}
 use Rattle.operators.proofs.Lists.{length-list_below, at-list_below}
-use Rattle.icode.proofs.Sequences.Placing.{slice_index-map, length-mapped}
+use Rattle.icode.proofs.SequenceLemmas.Placing.{slice_index-map, length-mapped}
 
 -- each item of the list is below a
 abbrev pub AllBelow : ℕ → List ℕ → Type 0

@@ -4,7 +4,7 @@ use Rattle.std.proofs.Common.{[], ◌∷◌, length, mod-lt, mul_comm, if◌then
 use Rattle.std.specs.Prelude.{◌==◌, slice_index}
 use Rattle.std.proofs.Math.Nat.{one-mul, mul-one, mod-eq_of_lt}
 use Rattle.std.proofs.lemmas.Bool.{eqb-true}
-use Rattle.icode.proofs.Sequences.ByLane.{this_register, other_register}
+use Rattle.icode.proofs.SequenceLemmas.ByLane.{this_register, other_register}
 use Rattle.operators.specs.Operator.{Operator, scale, block, on_each_block}
 use Rattle.operators.specs.Sum.{sum_below, list_below}
 use Rattle.operators.proofs.Lists.{length-list_below, list_below-same_rows, row-of, column-of}

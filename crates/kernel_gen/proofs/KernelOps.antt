@@ -16,7 +16,7 @@ use Rattle.kernel_gen.specs.declared.straight.KernelOp.{KernelOp}
 use Rattle.kernel_gen.specs.declared.straight.KernelOp.TheVariants.{Add, Sub, Neg, Mul}
 use Rattle.kernel_gen.specs.KernelOps.{op_of, action_by, actions_by, code_effect, code_cost, AreWithin}
 use Rattle.kernel_gen.proofs.Below.{length-joined}
-use Rattle.icode.proofs.Sequences.Tiles.{slice_index-front}
+use Rattle.icode.proofs.SequenceLemmas.Tiles.{slice_index-front}
 
 -- the step of an operation of a kernel, in any program, at any values of the loops and on any processor
 pub step-is : (p : PlainProgram) (i : KernelOp) (vs : List ℕ) (q : ℕ) →

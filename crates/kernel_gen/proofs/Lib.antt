@@ -8,7 +8,7 @@ pub mod Factors
 pub mod Matrices
 pub mod Trees
 pub mod Sizes
-pub mod Kernels
+pub mod KernelLemmas
 pub mod NodeCosts
 pub mod RequestNodes
 pub mod Writes

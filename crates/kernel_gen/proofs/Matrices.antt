@@ -3,7 +3,7 @@ use Rattle.std.proofs.Common.{◌≡◌, ℕ, zero, suc, ◌+◌, ◌-◌, ◌*�
 use Rattle.std.proofs.Common.{◌++◌, length, map, mod-lt}
 use Rattle.std.specs.Prelude.{slice_index}
 use Rattle.std.proofs.Math.Nat.{one-mul}
-use Rattle.icode.proofs.Sequences.Placing.{length-mapped}
+use Rattle.icode.proofs.SequenceLemmas.Placing.{length-mapped}
 use Rattle.operators.specs.Operator.{Operator, matrix_times}
 use Rattle.operators.specs.Sum.{sum_below, list_below}
 use Rattle.operators.proofs.Lists.{length-list_below}

@@ -10,7 +10,7 @@ use Rattle.kernel_gen.specs.Kernel.{node_kernel}
 use Rattle.kernel_gen.specs.Kernels.{CostsNode, IsStraight, Transforms, TransformsNode}
 use Rattle.kernel_gen.specs.Making.{Made}
 use Rattle.kernel_gen.specs.Nodes.{IsNodeTree}
-use Rattle.kernel_gen.proofs.Kernels.{does_cost, does_straight, does_transform, firsts}
+use Rattle.kernel_gen.proofs.KernelLemmas.{does_cost, does_straight, does_transform, firsts}
 use Rattle.kernel_gen.proofs.Pieces.{DoesAt}
 use Rattle.kernel_gen.proofs.Products.{trees-does}
 use Rattle.kernel_gen.proofs.RootedNodes.{rooted_cost, rooted_made, rooted_on}

@@ -3,7 +3,7 @@ use Rattle.std.proofs.Common.{◌≡◌, ℕ, ◌+◌, ◌<◌, arith, refl, ap,
 use Rattle.std.proofs.lemmas.List.{map-append}
 use Rattle.icode.specs.declared.action.Action.{Action}
 use Rattle.icode.specs.Sequences.Lanes.{Registers, lane_effect, weighted_operations}
-use Rattle.icode.proofs.Sequences.Placing.{length-mapped}
+use Rattle.icode.proofs.SequenceLemmas.Placing.{length-mapped}
 use Rattle.operators.specs.Operator.{Operator, gather}
 use Rattle.operators.proofs.Lists.{length-list_below}
 use Rattle.kernel_gen.specs.declared.straight.KernelOp.{KernelOp}

@@ -10,7 +10,7 @@ use Rattle.tree_model.specs.declared.tree.Rule.TheVariants.{Split}
 use Rattle.kernel_gen.specs.Kernel.{node_make, tree_make, trees_kernel, trees_make}
 use Rattle.tree_model.specs.KernelCosts.{CanMake, kernel_cost, trees_cost}
 use Rattle.kernel_gen.proofs.KernelSizes.{trees-positive}
-use Rattle.kernel_gen.proofs.Kernels.{does-any, firsts, firsts-below}
+use Rattle.kernel_gen.proofs.KernelLemmas.{does-any, firsts, firsts-below}
 use Rattle.kernel_gen.proofs.Pieces.{Does, DoesAt, does-same}
 use Rattle.kernel_gen.proofs.Trees.{does-split}
 

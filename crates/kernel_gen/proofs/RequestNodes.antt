@@ -11,7 +11,7 @@ use Rattle.tree_model.specs.Breakdown.{Breakdown, size_of}
 use Rattle.tree_model.specs.Cost.{node_root}
 use Rattle.tree_model.proofs.Splits.{product_div}
 use Rattle.tree_model.specs.KernelCosts.{IsRoot, AllowsRoot}
-use Rattle.kernel_gen.proofs.Kernels.{root-any}
+use Rattle.kernel_gen.proofs.KernelLemmas.{root-any}
 
 -- the root of a part
 part_root : (kind : Kind) (m w n d q : ℕ) → 2 ≤ m → d * q ≡ n → HasRoot kind m w n → IsRoot kind m d (power_mod m w q)

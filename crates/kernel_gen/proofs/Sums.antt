@@ -5,7 +5,7 @@ use Rattle.std.specs.Prelude.{◌==◌}
 use Rattle.std.proofs.Math.Nat.{one-mul, mod-eq_of_lt, mod-mod}
 use Rattle.std.proofs.lemmas.Bool.{eqb-true}
 use Rattle.icode.specs.Sequences.Lanes.{Registers, lane_effect}
-use Rattle.icode.proofs.Sequences.ByLane.{this_register, other_register}
+use Rattle.icode.proofs.SequenceLemmas.ByLane.{this_register, other_register}
 use Rattle.operators.specs.Operator.{Operator}
 use Rattle.ring_mod.proofs.Congruence.{same-add}
 use Rattle.ring_mod.proofs.LastResidue.{add_last_times}

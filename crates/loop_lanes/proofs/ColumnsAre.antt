@@ -16,7 +16,7 @@ use Rattle.icode.specs.Limits.{is_small}
 use Rattle.icode.specs.Machine.{Local, effects}
 use Rattle.icode.specs.Plain.{PlainOp, PlainProgram}
 use Rattle.icode.specs.Sequences.Lanes.{lane_of}
-use Rattle.icode.proofs.Sequences.Stores.{length-registers}
+use Rattle.icode.proofs.SequenceLemmas.Stores.{length-registers}
 use Rattle.nests.specs.Places.{are_linear, stride}
 use Rattle.nests.specs.Rounds.{Stored, are_fresh, straight}
 use Rattle.nests.proofs.Swaps.{loops_same}

@@ -20,8 +20,8 @@ use Rattle.icode.specs.declared.action.Action.{Action}
 use Rattle.icode.specs.Expression.{sum_numbers}
 use Rattle.icode.proofs.Bools.{both_true}
 use Rattle.icode.proofs.Lines.{Contains-head}
-use Rattle.icode.proofs.Sequences.ByLane.{this_register, other_register, effect_by_lane, length-registers_after}
-use Rattle.icode.proofs.Sequences.Stores.{load_by_lane}
+use Rattle.icode.proofs.SequenceLemmas.ByLane.{this_register, other_register, effect_by_lane, length-registers_after}
+use Rattle.icode.proofs.SequenceLemmas.Stores.{load_by_lane}
 use Rattle.nests.specs.Places.{is_linear}
 use Rattle.nests.proofs.Acts.{loaded_words}
 use Rattle.nests.proofs.Linear.{wrong}

@@ -13,9 +13,9 @@ use Rattle.icode.specs.Expression.{sum_numbers}
 use Rattle.icode.specs.Machine.{Local, effect, effects, whole_lines}
 use Rattle.icode.specs.Plain.{PlainOp, PlainProgram, Sum, Load}
 use Rattle.icode.specs.Sequences.Lanes.{Registers, lane_of, with_register}
-use Rattle.icode.proofs.Sequences.ByLane.{this_register, other_register, length-registers_after}
-use Rattle.icode.proofs.Sequences.Stores.{length-registers, load_by_lane}
-use Rattle.icode.proofs.Sequences.Tiles.{tile_by_lane, tile_elsewhere}
+use Rattle.icode.proofs.SequenceLemmas.ByLane.{this_register, other_register, length-registers_after}
+use Rattle.icode.proofs.SequenceLemmas.Stores.{length-registers, load_by_lane}
+use Rattle.icode.proofs.SequenceLemmas.Tiles.{tile_by_lane, tile_elsewhere}
 use Rattle.nests.specs.Places.{are_linear}
 use Rattle.loop_lanes.specs.Loads.{Loaded, load_at, load_tile, load_tiles, are_loaded_rows, in_loaded_rows, behind}
 use Rattle.loop_lanes.specs.Loads.{are_loaded, in_tiles, in_loaded}

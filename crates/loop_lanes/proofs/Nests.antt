@@ -13,8 +13,8 @@ use Rattle.icode.specs.Actions.{plain_code}
 use Rattle.icode.specs.Machine.{Local, effects, stored_words, touched_words, IsApart}
 use Rattle.icode.specs.Plain.{PlainProgram, PlainOp, PlainStmt, PlainBody, Loop, Do, NoStmts, AndStmts}
 use Rattle.icode.proofs.Lines.{Contains-nil}
-use Rattle.icode.proofs.Sequences.ByLane.{lists_follow}
-use Rattle.icode.proofs.Sequences.Stores.{length-registers}
+use Rattle.icode.proofs.SequenceLemmas.ByLane.{lists_follow}
+use Rattle.icode.proofs.SequenceLemmas.Stores.{length-registers}
 use Rattle.nests.proofs.Rows.{actions_of-append, in-loop, StepsFit, all_fit}
 use Rattle.nests.proofs.Members.{all_of_members, IsWithin}
 use Rattle.loop_lanes.specs.Layers.{AreLanesFor, memory_by, on_lanes, IsGroup, RoundsAreLanes, steps_at, group_at}

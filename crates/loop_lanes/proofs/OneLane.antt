@@ -10,9 +10,9 @@ use Rattle.icode.specs.declared.action.Action.{Action}
 use Rattle.icode.specs.declared.action.Action.TheVariants.{Load, Store, Zero, Add, Sub, Neg, Mul, Tile}
 use Rattle.icode.specs.Machine.{Local, effect, effects, value_put, register_put, register_of, with_words, lane_by_lane}
 use Rattle.icode.specs.Machine.{stored_words}
-use Rattle.icode.proofs.Sequences.ByLane.{lists_follow, length-registers_after}
-use Rattle.icode.proofs.Sequences.Placing.{slice_index-slice_set}
-use Rattle.icode.proofs.Sequences.Stores.{length-registers}
+use Rattle.icode.proofs.SequenceLemmas.ByLane.{lists_follow, length-registers_after}
+use Rattle.icode.proofs.SequenceLemmas.Placing.{slice_index-slice_set}
+use Rattle.icode.proofs.SequenceLemmas.Stores.{length-registers}
 use Rattle.nests.proofs.Acts.{IsFresh, AreFresh, IsWide, AreWide, IsRound, next_after}
 use Rattle.loop_lanes.specs.Layers.{memory_by, Write, written, values_put, writes_of}
 use Rattle.loop_lanes.proofs.Orders.{values_stay}

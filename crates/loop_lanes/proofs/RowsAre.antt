@@ -17,8 +17,8 @@ use Rattle.icode.specs.Plain.{PlainExpr, PlainParts, PlainOp, PlainProgram, Sum,
 use Rattle.icode.proofs.Bools.{both_true}
 use Rattle.icode.proofs.Lines.{Contains-nil}
 use Rattle.icode.proofs.Words.{length-words_at}
-use Rattle.icode.proofs.Sequences.ByLane.{length-registers_after}
-use Rattle.icode.proofs.Sequences.Placing.{with_words_elsewhere}
+use Rattle.icode.proofs.SequenceLemmas.ByLane.{length-registers_after}
+use Rattle.icode.proofs.SequenceLemmas.Placing.{with_words_elsewhere}
 use Rattle.nests.specs.Places.{are_linear, stride}
 use Rattle.nests.specs.Rounds.{Stored, same_array, is_fresh, put_after, are_fresh, straight}
 use Rattle.nests.proofs.Acts.{loaded_words}

@@ -13,10 +13,10 @@ use Rattle.icode.specs.Expression.{sum_numbers}
 use Rattle.icode.specs.Machine.{Local, effect, effects, whole_lines}
 use Rattle.icode.specs.Plain.{PlainOp, PlainProgram, Sum}
 use Rattle.icode.specs.Sequences.Lanes.{Registers, lane_of, with_register}
-use Rattle.icode.proofs.Sequences.ByLane.{effect_by_lane, this_register, other_register, length-registers_after}
-use Rattle.icode.proofs.Sequences.ByLane.{lists_follow}
-use Rattle.icode.proofs.Sequences.Stores.{length-registers}
-use Rattle.icode.proofs.Sequences.Tiles.{tile_by_lane, tile_elsewhere}
+use Rattle.icode.proofs.SequenceLemmas.ByLane.{effect_by_lane, this_register, other_register, length-registers_after}
+use Rattle.icode.proofs.SequenceLemmas.ByLane.{lists_follow}
+use Rattle.icode.proofs.SequenceLemmas.Stores.{length-registers}
+use Rattle.icode.proofs.SequenceLemmas.Tiles.{tile_by_lane, tile_elsewhere}
 use Rattle.nests.specs.Places.{are_linear}
 use Rattle.nests.specs.Rounds.{Stored}
 use Rattle.loop_lanes.specs.Columns.{Factors, row_at, tile_at}

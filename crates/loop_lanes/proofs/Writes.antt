@@ -6,7 +6,7 @@ use Rattle.std.proofs.lemmas.Bool.{cases_eq}
 use Rattle.std.proofs.lemmas.List.{ext_get_or}
 use Rattle.icode.proofs.Lines.{Contains-head, Contains-tail, Contains-nil}
 use Rattle.icode.proofs.Words.{slice_get-set_other, slice_index-agree}
-use Rattle.icode.proofs.Sequences.Placing.{length-slice_set, slice_index-slice_set}
+use Rattle.icode.proofs.SequenceLemmas.Placing.{length-slice_set, slice_index-slice_set}
 use Rattle.loop_lanes.specs.Layers.{Write, written, OrderIsFree}
 
 pub length-written : (memory : List ℕ) (ws : List Write) → length (written memory ws) ≡ length memory

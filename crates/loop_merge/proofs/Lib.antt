@@ -2,7 +2,7 @@ pub mod AloneOwns
 pub mod PlainPasses
 pub mod JoinedPasses
 pub mod MultipliedPasses
-pub mod Coalescing
+pub mod CoalescingLemmas
 pub mod Readies
 pub mod Waiting
 pub mod States

@@ -14,7 +14,7 @@ use Rattle.loop_merge.specs.Known.{IsGood, AreKnownPasses, HasRoom, IsKnown}
 use Rattle.loop_nests.specs.Ready.{AreReadyPasses}
 use Rattle.loop_nests.specs.Places.Known.{AreSteps}
 use Rattle.sigma_spl.specs.Words.{AreWords}
-use Rattle.loop_nests.proofs.Places.Passes.{known-scattered}
+use Rattle.loop_nests.proofs.PlaceLemmas.Passes.{known-scattered}
 use Rattle.loop_merge.proofs.Readies.{low, steps-end}
 use Rattle.loop_nests.proofs.Sided.{ready-sides}
 use Rattle.loop_merge.proofs.States.{known-nest, known-move, known-append, known-settled, known-pass, known-scatter}

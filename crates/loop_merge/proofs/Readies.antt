@@ -10,7 +10,7 @@ use Rattle.sigma_spl.proofs.Walk.{chosen}
 use Rattle.loop_nests.specs.NewNests.{copied_by_word}
 use Rattle.loop_nests.proofs.Readies.{ready-copying, ready-words}
 use Rattle.loop_nests.specs.Places.Known.{IsKnownPass, IsStep, AreSteps}
-use Rattle.loop_nests.proofs.Places.Passes.{known-gathered, known-scattered}
+use Rattle.loop_nests.proofs.PlaceLemmas.Passes.{known-gathered, known-scattered}
 use Rattle.loop_merge.specs.Known.{HasRoom}
 
 -- ---- the room that is left

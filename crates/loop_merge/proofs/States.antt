@@ -24,8 +24,8 @@ use Rattle.loop_merge.specs.Known.{IsGood, AreKnownPasses, HasRoom}
 use Rattle.loop_nests.specs.NewNests.{moved_nest, natural_nest}
 use Rattle.loop_nests.specs.Ready.{AreReady, IsReadyPass}
 use Rattle.loop_nests.specs.Places.Known.{IsKnownPass, IsStep, AreSteps}
-use Rattle.loop_nests.proofs.Places.Carries.{carry-places}
-use Rattle.loop_nests.proofs.Places.Passes.{known-gathered, known-scattered}
+use Rattle.loop_nests.proofs.PlaceLemmas.Carries.{carry-places}
+use Rattle.loop_nests.proofs.PlaceLemmas.Passes.{known-gathered, known-scattered}
 use Rattle.loop_nests.proofs.Readies.{ready-new, ready-in, ready-constants}
 use Rattle.loop_merge.proofs.Readies.{low, known-copying, known-by}
 

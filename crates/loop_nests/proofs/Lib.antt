@@ -1,5 +1,5 @@
-pub mod Places
-pub mod Limits
+pub mod PlaceLemmas
+pub mod LimitLemmas
 pub mod Naming
 pub mod Frames
 pub mod Shares

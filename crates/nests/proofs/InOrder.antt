@@ -5,7 +5,7 @@ use Rattle.std.proofs.Common.{arith}
 use Rattle.std.specs.Prelude.{slice_index_or, slice_set, replicate}
 use Rattle.icode.specs.declared.action.Action.{Action}
 use Rattle.icode.specs.Machine.{Code, Whole, acts, start, processor_alone, processors_alone, phases_alone, in_order}
-use Rattle.icode.proofs.Sequences.Stores.{length-registers}
+use Rattle.icode.proofs.SequenceLemmas.Stores.{length-registers}
 use Rattle.nests.proofs.Acts.{memory_by, registers_by}
 
 -- ---- two lists of actions

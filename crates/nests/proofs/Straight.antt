@@ -4,7 +4,7 @@ use Rattle.std.proofs.Common.{length, refl, sym, ap, ◌∙◌, arith, append-ni
 use Rattle.std.specs.List.{range_with_len}
 use Rattle.std.proofs.lemmas.List.{drop_all}
 use Rattle.icode.specs.Plain.{PlainOp, Do, AndStmts, body_of}
-use Rattle.icode.proofs.Sequences.Statements.{range-last}
+use Rattle.icode.proofs.SequenceLemmas.Statements.{range-last}
 use Rattle.nests.specs.Rounds.{straight}
 
 -- ---- lists

@@ -16,13 +16,13 @@ use Rattle.icode.proofs.Words.{same_from_slice_get, slice_index-agree, slice_get
 use Rattle.icode.proofs.Words.{length-words_at, with_words-other}
 use Rattle.icode.proofs.Lines.{Contains-nil, Contains-range, Contains_or_not}
 use Rattle.icode.proofs.Transposes.{length-transposed}
-use Rattle.icode.proofs.Sequences.Placing.{length-slice_set, length-with_words, length-lane_by_lane, length-mapped}
+use Rattle.icode.proofs.SequenceLemmas.Placing.{length-slice_set, length-with_words, length-lane_by_lane, length-mapped}
 use Rattle.nests.proofs.Acts.{IsFresh, AreFresh, IsWide, AreWide, IsRound, next_after, loaded_words, Loads, memory_by}
 use Rattle.nests.proofs.Acts.{DoTheSame, AreApart, Stores}
 use Rattle.std.proofs.lemmas.List.Concat.{flat_map-append}
-use Rattle.icode.proofs.Sequences.ByLane.{lists_follow}
-use Rattle.icode.proofs.Sequences.Statements.{range-last}
-use Rattle.icode.proofs.Sequences.Stores.{length-registers, length-memory}
+use Rattle.icode.proofs.SequenceLemmas.ByLane.{lists_follow}
+use Rattle.icode.proofs.SequenceLemmas.Statements.{range-last}
+use Rattle.icode.proofs.SequenceLemmas.Stores.{length-registers, length-memory}
 use Rattle.std.proofs.Math.Path.{fun_ext}
 
 -- ---- words

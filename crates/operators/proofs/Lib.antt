@@ -6,4 +6,4 @@ pub mod Places
 pub mod Scatters
 pub mod Sums
 pub mod WholeLines
-pub mod Paths
+pub mod PathLemmas

@@ -20,7 +20,7 @@ use Rattle.par_machine.specs.Performed.{HasRoom}
 use Rattle.par_machine.specs.Played.{Playing, CanPlay, played_one, played}
 use Rattle.par_machine.specs.Position.{Position, next_position, positions}
 use Rattle.icode.proofs.Below.{effect_memory_below, effect_registers_below}
-use Rattle.icode.proofs.Sequences.Placing.{length-with_words}
+use Rattle.icode.proofs.SequenceLemmas.Placing.{length-with_words}
 use Rattle.par_machine.proofs.Executed.{room_less, room_after}
 use Rattle.par_machine.proofs.Frames.{place_inside}
 use Rattle.par_machine.proofs.Steps.{length-memory_after}

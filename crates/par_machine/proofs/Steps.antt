@@ -21,7 +21,7 @@ use Rattle.par_machine.specs.Position.{Position, next_position, first_position}
 use Rattle.par_machine.specs.Frame.{Frame, Stand, code_of_frame, places_in, IsReady, IsRunning}
 use Rattle.icode.proofs.Residues.{AreBelow}
 use Rattle.icode.proofs.Below.{effect_memory_below, effect_registers_below}
-use Rattle.icode.proofs.Sequences.Placing.{length-with_words}
+use Rattle.icode.proofs.SequenceLemmas.Placing.{length-with_words}
 use Rattle.par_machine.proofs.Executed.{counts_more, executed_moved}
 use Rattle.par_machine.proofs.Frames.{length-positions, places_at, places_first, place_after, is_code, count_lists}
 use Rattle.par_machine.proofs.Frames.{acts_places, IsHere, hand_place}

@@ -6,7 +6,7 @@ use Rattle.std.specs.Prelude.{slice_index}
 use Rattle.std.proofs.lemmas.Bool.{cases_lt}
 use Rattle.icode.specs.Machine.{register_of, transposed, with_words, words_at}
 use Rattle.icode.proofs.Words.{slice_index-agree, with_words-other}
-use Rattle.icode.proofs.Sequences.Placing.{length-with_words, with_words_there}
+use Rattle.icode.proofs.SequenceLemmas.Placing.{length-with_words, with_words_there}
 use Rattle.nests.proofs.Swaps.{loops_same, map-alike}
 use Rattle.renumbered_registers.specs.Renumbered.{Numbering, put_all}
 use Rattle.renumbered_registers.proofs.Given.{AreGiven, numbers-other, numbers-there, some-is}

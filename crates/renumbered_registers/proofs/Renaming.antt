@@ -19,7 +19,7 @@ use Rattle.icode.specs.Plain.{MulConst, MulTable, Tile, Loop, Do, NoStmts, AndSt
 use Rattle.icode.proofs.Phase.{effects-append}
 use Rattle.icode.proofs.Words.{length-words_at}
 use Rattle.icode.proofs.Transposes.{length-transposed}
-use Rattle.icode.proofs.Sequences.Placing.{length-lane_by_lane, length-mapped}
+use Rattle.icode.proofs.SequenceLemmas.Placing.{length-lane_by_lane, length-mapped}
 use Rattle.nests.specs.Rounds.{put_after}
 use Rattle.nests.proofs.Listed.{all-left, all-right, all-in-loop}
 use Rattle.nests.proofs.Rows.{actions_of-append, factors_each}

@@ -17,8 +17,8 @@ use Rattle.sigma_spl.proofs.Natural.{at-natural}
 use Rattle.sigma_spl.proofs.Limited.{below-all}
 use Rattle.sigma_lower.proofs.TreeTerms.Permuted.{scale-under}
 use Rattle.operators.specs.Paths.Tensors.{one_under, Reads, local}
-use Rattle.operators.proofs.Paths.PathPlaces.{at-under}
-use Rattle.operators.proofs.Paths.Under.{under-product}
+use Rattle.operators.proofs.PathLemmas.PathPlaces.{at-under}
+use Rattle.operators.proofs.PathLemmas.Under.{under-product}
 
 -- a good term that does to a vector what an operator does
 pub record Lowers (m n : ℕ) (t : PlainTerm) (a : Operator) : Type 0 where

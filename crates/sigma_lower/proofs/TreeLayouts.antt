@@ -2,7 +2,7 @@
 use Rattle.sigma_lower.proofs.Words.{IsMachine, IsValid, Request, target_of}
 use Rattle.sigma_lower.specs.Merged.{TreesCanLower}
 use Rattle.smp_rewrite.proofs.TreeLaws.{layouts_fit}
-use Rattle.smp_rewrite.proofs.Layout.Wholes.{wholes_are_good}
+use Rattle.smp_rewrite.proofs.LayoutLemmas.Wholes.{wholes_are_good}
 
 -- the machine of a valid request
 pub machine_of : (c : Request) → IsValid c → IsMachine (target_of c)

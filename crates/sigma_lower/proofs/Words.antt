@@ -31,9 +31,9 @@ pub use Rattle.index_fn.specs.Mapping.{Always, Mapping, Paired, Same, Strided, T
 pub use Rattle.operators.proofs.Lists.{at-list_below, column-of, factor_positive, length-list_below, list_below-same}
 pub use Rattle.operators.proofs.Lists.{place_below, row-of}
 pub use Rattle.operators.proofs.Places.{stride_below}
-pub use Rattle.operators.proofs.Paths.PathPlaces.{place-below}
-pub use Rattle.operators.proofs.Paths.Under.{copies_of-push, size_under-copies, size_under-push, under-push}
-pub use Rattle.operators.proofs.Paths.Under.{under-size}
+pub use Rattle.operators.proofs.PathLemmas.PathPlaces.{place-below}
+pub use Rattle.operators.proofs.PathLemmas.Under.{copies_of-push, size_under-copies, size_under-push, under-push}
+pub use Rattle.operators.proofs.PathLemmas.Under.{under-size}
 pub use Rattle.operators.specs.Loop.{IsPermutationBelow}
 pub use Rattle.operators.specs.Operator.{Operator, block, column, gather, on_blocks, on_columns, scale, stride}
 pub use Rattle.operators.specs.Sum.{list_below}
@@ -66,8 +66,8 @@ pub use Rattle.spl_ast.specs.Formula.{Twiddles, size_of}
 pub use Rattle.spl_ast.specs.Meaning.{apply}
 pub use Rattle.spl_ast.specs.Shape.{IsShaped}
 pub use Rattle.smp_rewrite.proofs.Dealt.{IsDealt, is_dealt}
-pub use Rattle.smp_rewrite.proofs.Layout.Layouts.{layouts_cost, layouts_have_size}
-pub use Rattle.smp_rewrite.proofs.Layout.NodeTrees.{left_fits}
+pub use Rattle.smp_rewrite.proofs.LayoutLemmas.Layouts.{layouts_cost, layouts_have_size}
+pub use Rattle.smp_rewrite.proofs.LayoutLemmas.NodeTrees.{left_fits}
 pub use Rattle.smp_rewrite.proofs.Tensors.{blocks-within, copies-within, grown-one, is-one, size-within, within_all}
 pub use Rattle.smp_rewrite.specs.Cut.{cut, cut_factors, factors_of, first_count, layout_smp, smp_of}
 pub use Rattle.smp_rewrite.specs.Fits.{CanShareLayout, HasParts, RootHasParts, RuleHasParts}

@@ -20,7 +20,7 @@ use Rattle.operators.specs.declared.paths.Tensor.{Tensor}
 use Rattle.operators.specs.declared.paths.Tensor.TheVariants.{Blocks, Columns}
 use Rattle.operators.specs.Paths.Loop.{nest_sum, loop_at}
 use Rattle.operators.specs.Paths.Tensors.{Path, count_of, grown, AreInRange}
-use Rattle.operators.proofs.Paths.PathLoops.{nest_sum-same, sum_below-zero}
+use Rattle.operators.proofs.PathLemmas.PathLoops.{nest_sum-same, sum_below-zero}
 
 -- ---- tests
 

@@ -6,7 +6,7 @@ use Rattle.index_fn.specs.Mapping.{Mapping, at}
 use Rattle.operators.specs.Sum.{sum_below, list_below}
 use Rattle.operators.proofs.Sums.{sum_below-same, sum_below-swap, sum_below-add, sum_below-zeros}
 use Rattle.operators.proofs.Scatters.{sum_below-only, miss}
-use Rattle.operators.proofs.Paths.PathLoops.{nest_sum-same}
+use Rattle.operators.proofs.PathLemmas.PathLoops.{nest_sum-same}
 use Rattle.sigma_spl.specs.Copies.{loops_of, Copies, hits, StoreOnce, IsInside, AreInside}
 use Rattle.sigma_spl.specs.Counts.{copies_in, multiplier_cost, nest_cost, pass_cost, passes_cost, term_cost}
 use Rattle.sigma_spl.specs.Counts.{CopiesAreFree, MergeCounts}

@@ -29,7 +29,7 @@ use Rattle.sigma_spl.proofs.Walk.{waiting_on, gathers-end, moves-end, Stands, me
 use Rattle.sigma_spl.proofs.Walk.{pass-reaches, diagonal-reaches, scatter-reaches, ended-are, vector-below}
 use Rattle.operators.specs.declared.paths.Tensor.TheVariants.{Blocks, Columns}
 use Rattle.operators.specs.Paths.Tensors.{Path, size_under, under}
-use Rattle.operators.proofs.Paths.Under.{under-product}
+use Rattle.operators.proofs.PathLemmas.Under.{under-product}
 
 -- ---- vectors under tensors and side by side
 

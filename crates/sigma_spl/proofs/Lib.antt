@@ -1,4 +1,4 @@
-pub mod Plain
+pub mod PlainLemmas
 pub mod CopiesMerge
 pub mod Nests
 pub mod Natural

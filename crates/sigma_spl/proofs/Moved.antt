@@ -18,7 +18,7 @@ use Rattle.sigma_spl.proofs.Natural.{ranged, place-alone, store-natural, names-o
 use Rattle.sigma_spl.proofs.Natural.{sound-places, at-natural}
 use Rattle.sigma_spl.proofs.Nests.{stored-alike, at-map, length-map}
 use Rattle.operators.specs.Paths.Tensors.{Path, count_of, size_under, place, AreInRange}
-use Rattle.operators.proofs.Paths.PathPlaces.{place-below}
+use Rattle.operators.proofs.PathLemmas.PathPlaces.{place-below}
 
 -- ---- copies that move their items
 

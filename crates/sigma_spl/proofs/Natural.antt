@@ -24,8 +24,8 @@ use Rattle.sigma_spl.proofs.Nests.{stored-alike, length-map, at-map}
 use Rattle.operators.specs.declared.paths.Tensor.TheVariants.{Blocks, Columns}
 use Rattle.operators.specs.Paths.Loop.{loop_at, IsOneToOne}
 use Rattle.operators.specs.Paths.Tensors.{Path, count_of, size_under, place, AreInRange}
-use Rattle.operators.proofs.Paths.PathLoops.{loop_at-place, place-one_to_one, reach, Reached}
-use Rattle.operators.proofs.Paths.PathPlaces.{place-below}
+use Rattle.operators.proofs.PathLemmas.PathLoops.{loop_at-place, place-one_to_one, reach, Reached}
+use Rattle.operators.proofs.PathLemmas.PathPlaces.{place-below}
 
 -- ---- ranges
 

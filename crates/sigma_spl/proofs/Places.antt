@@ -11,7 +11,7 @@ use Rattle.sigma_spl.specs.Places.{IsAmong, PassStores}
 use Rattle.sigma_spl.proofs.CopiesMerge.{loop-none}
 use Rattle.operators.specs.Paths.Loop.{nest_sum, loop_at, IsOneToOne}
 use Rattle.operators.specs.Paths.Tensors.{Path, count_of, AreInRange}
-use Rattle.operators.proofs.Paths.PathLoops.{loop_at-place}
+use Rattle.operators.proofs.PathLemmas.PathLoops.{loop_at-place}
 
 -- ---- terms of a sum
 

@@ -4,7 +4,7 @@ use Rattle.std.proofs.Common.{List, [], ◌∷◌, ◌++◌, length, subst, Opti
 use Rattle.std.specs.Prelude.{slice_index, slice_index_or, map, ◌==◌, if◌then◌else◌}
 use Rattle.operators.specs.Operator.{Operator}
 use Rattle.operators.proofs.Lists.{factor_positive, at-list_below, list_below-same, place_below}
-use Rattle.operators.proofs.Paths.Under.{one_under-same}
+use Rattle.operators.proofs.PathLemmas.Under.{one_under-same}
 use Rattle.perm_algebra.specs.Affine.{Sum, constant, variable, remainder, quotient, value, IsSound, added}
 use Rattle.perm_algebra.proofs.AffineLaws.{value-added}
 use Rattle.perm_algebra.proofs.Kept.{sound-added}

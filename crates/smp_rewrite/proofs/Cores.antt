@@ -19,7 +19,7 @@ use Rattle.operators.specs.Paths.Tensors.{Reads}
 use Rattle.operators.specs.declared.paths.Tensor.TheVariants.{Blocks}
 use Rattle.tree_model.specs.Breakdown.{size_of}
 use Rattle.kernel_gen.proofs.Trees.{good_thomas_out_below, good_thomas_in_below}
-use Rattle.sigma_spl.proofs.Plain.Copies.{gather_reads}
+use Rattle.sigma_spl.proofs.PlainLemmas.Copies.{gather_reads}
 
 reads-transform : (kind : Kind) (m n w : ℕ) → Reads n (transform kind m n w)
 reads-transform kind m n w x =

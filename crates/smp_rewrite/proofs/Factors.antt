@@ -15,7 +15,7 @@ use Rattle.smp_rewrite.specs.Layout.Meaning.{core_size, core_on, step_on, all_on
 use Rattle.smp_rewrite.specs.Layout.Step.{PlainCore, piece, turns, twiddles, thomas_in, thomas_out, PlainStep}
 use Rattle.smp_rewrite.specs.Layout.Step.{step}
 use Rattle.operators.specs.declared.target.Target.{Target}
-use Rattle.smp_rewrite.proofs.Layout.StepMeanings.{all_on-append}
+use Rattle.smp_rewrite.proofs.LayoutLemmas.StepMeanings.{all_on-append}
 use Rattle.operators.specs.declared.paths.Tensor.TheVariants.{Blocks, Columns}
 use Rattle.operators.specs.Paths.Tensors.{Path, size_under, under}
 use Rattle.sigma_spl.specs.Work.{PlainWork}

@@ -1,4 +1,4 @@
-pub mod Layout
+pub mod LayoutLemmas
 pub mod Sized
 pub mod Tensors
 pub mod Cores

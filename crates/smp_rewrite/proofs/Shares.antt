@@ -10,7 +10,7 @@ use Rattle.smp_rewrite.specs.Layout.Step.{PlainCore, piece, turns, twiddles, tho
 use Rattle.smp_rewrite.specs.Layout.Step.{step, core_cost, operations_of, operations_in}
 use Rattle.operators.specs.declared.paths.Tensor.TheVariants.{Blocks, Columns}
 use Rattle.operators.specs.Paths.Tensors.{Path, size_under, copies_of}
-use Rattle.operators.proofs.Paths.Under.{size_under-copies}
+use Rattle.operators.proofs.PathLemmas.Under.{size_under-copies}
 use Rattle.smp_rewrite.specs.Smp.{PlainFactor, blocks, within, shares_in}
 use Rattle.smp_rewrite.specs.Cut.{cut_factors, factors_of, cut}
 use Rattle.smp_rewrite.specs.Laws.{step_size}

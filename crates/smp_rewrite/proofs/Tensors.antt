@@ -11,7 +11,7 @@ use Rattle.operators.proofs.Lists.{at-list_below, list_below-same, row-of, colum
 use Rattle.operators.specs.declared.paths.Tensor.{Tensor}
 use Rattle.operators.specs.declared.paths.Tensor.TheVariants.{Blocks, Columns}
 use Rattle.operators.specs.Paths.Tensors.{Path, count_of, grown, size_under, copies_of, one_under, under, Reads}
-use Rattle.operators.proofs.Paths.Under.{under-size, one_under-same}
+use Rattle.operators.proofs.PathLemmas.Under.{under-size, one_under-same}
 use Rattle.sigma_spl.specs.Good.{AreBlocks}
 use Rattle.smp_rewrite.specs.Smp.{within}
 

@@ -14,16 +14,16 @@ use Rattle.std.proofs.lemmas.Bool.{cases_eq}
 use Rattle.smp_rewrite.specs.Layout.Step.{steps_of}
 use Rattle.sigma_spl.specs.Shared.Targets.{target_of}
 use Rattle.operators.specs.declared.target.Target.{Target}
-use Rattle.smp_rewrite.proofs.Layout.StepCosts.{steps_cost}
-use Rattle.smp_rewrite.proofs.Layout.StepMeanings.{steps_do}
+use Rattle.smp_rewrite.proofs.LayoutLemmas.StepCosts.{steps_cost}
+use Rattle.smp_rewrite.proofs.LayoutLemmas.StepMeanings.{steps_do}
 use Rattle.smp_rewrite.specs.Laws.{HasEqualParts, LayoutsFit, SmpTransforms, SmpCosts, SmpShaped}
 use Rattle.smp_rewrite.specs.Fits.{RuleHasParts, RootHasParts, CanShareLayout}
 use Rattle.matrix_meaning.specs.declared.Kind.{Kind}
 use Rattle.matrix_meaning.specs.declared.Kind.TheVariants.{Dft, Wht, Idft}
 use Rattle.matrix_meaning.specs.declared.Request.{Request}
 use Rattle.matrix_meaning.specs.Parts.{forward_by, forward_of}
-use Rattle.smp_rewrite.proofs.Layout.Layouts.{layouts_have_size, node-pick}
-use Rattle.smp_rewrite.proofs.Layout.Wholes.{forward_fits}
+use Rattle.smp_rewrite.proofs.LayoutLemmas.Layouts.{layouts_have_size, node-pick}
+use Rattle.smp_rewrite.proofs.LayoutLemmas.Wholes.{forward_fits}
 use Rattle.tree_model.specs.Admissible.{RootFits, RuleFits}
 use Rattle.tree_model.specs.Breakdown.{Breakdown, leaf, node, size_of}
 use Rattle.tree_model.specs.Cost.{is_plain, is_kernel}

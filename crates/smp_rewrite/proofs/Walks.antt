@@ -26,7 +26,7 @@ use Rattle.smp_rewrite.specs.Layout.Tree.{Layout, work, by, layout_size, layout_
 use Rattle.smp_rewrite.specs.Layout.Step.{PlainStep, step, turns, twiddles, thomas_in, thomas_out, rule_steps}
 use Rattle.smp_rewrite.specs.Layout.Step.{steps_of}
 use Rattle.smp_rewrite.specs.Layout.Whole.{factor_by}
-use Rattle.smp_rewrite.proofs.Layout.Layouts.{layouts_have_size}
+use Rattle.smp_rewrite.proofs.LayoutLemmas.Layouts.{layouts_have_size}
 use Rattle.operators.specs.Paths.Tensors.{Path}
 use Rattle.operators.specs.declared.paths.Tensor.TheVariants.{Blocks, Columns}
 use Rattle.tree_model.specs.Breakdown.{Breakdown, leaf, node, size_of, IsTree}

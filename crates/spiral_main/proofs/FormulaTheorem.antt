@@ -11,8 +11,8 @@ use Rattle.commands.specs.Equations.Front.{line}
 use Rattle.commands.specs.Formulas.Letters.{program_for}
 use Rattle.commands.specs.Good.{IsVector}
 use Rattle.commands.specs.Input.Commands.{admitted, first_stranger}
-use Rattle.commands.proofs.Formulas.Programs.{formula_programs_are_code}
-use Rattle.commands.proofs.Formulas.Shaped.{written_few, written_shaped}
+use Rattle.commands.proofs.FormulaLemmas.Programs.{formula_programs_are_code}
+use Rattle.commands.proofs.FormulaLemmas.Shaped.{written_few, written_shaped}
 use Rattle.commands.proofs.GoodPrograms.{conv_programs_convolve}
 use Rattle.listing_text.specs.Listing.{listing_of}
 use Rattle.matrix_meaning.specs.Convolution.{convolution}

@@ -15,7 +15,7 @@ use Rattle.commands.specs.Formulas.Code.{IsCodeOf}
 use Rattle.commands.specs.Formulas.Letters as formulas
 use Rattle.commands.specs.GoodPrograms.{FormulaProgramsAreCode}
 use Rattle.commands.specs.Input.Orders.{procs_in}
-use Rattle.commands.proofs.Formulas.Shaped.{written_few, written_shaped}
+use Rattle.commands.proofs.FormulaLemmas.Shaped.{written_few, written_shaped}
 use Rattle.commands.proofs.GoodPrograms.{conv_programs_convolve, programs_are_good}
 use Rattle.icode.specs.Plain.{PlainProgram}
 use Rattle.listing_text.specs.Listing.{listing_of}

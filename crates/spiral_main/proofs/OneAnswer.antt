@@ -29,10 +29,10 @@ use Rattle.spl_ast.specs.Formula.{Formula, size_of}
 use Rattle.spl_ast.specs.Meaning as meanings
 use Rattle.spiral_words.specs.declared.statuses.status.Status.{Status}
 use Rattle.tree_model.specs.Breakdown.{Breakdown}
-use Rattle.commands.proofs.Convolutions.OneConvolution.{conv_planned_decided, request_clash, same_fault}
-use Rattle.commands.proofs.Convolutions.OneConvolution.{same_request}
-use Rattle.commands.proofs.Formulas.OneFormula.{formed_decided, written_decided}
-use Rattle.commands.proofs.Listings.OneExecution.{loaded_decided}
+use Rattle.commands.proofs.ConvolutionLemmas.OneConvolution.{conv_planned_decided, request_clash, same_fault}
+use Rattle.commands.proofs.ConvolutionLemmas.OneConvolution.{same_request}
+use Rattle.commands.proofs.FormulaLemmas.OneFormula.{formed_decided, written_decided}
+use Rattle.commands.proofs.ListingLemmas.OneExecution.{loaded_decided}
 use Rattle.commands.proofs.Inputs.Stages.{IsDecided, bind_decided, done, ended, given_decided}
 use Rattle.commands.specs.Equations.Apply.{apply_work}
 use Rattle.commands.specs.Equations.Check.{fitting}

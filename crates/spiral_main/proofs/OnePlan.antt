@@ -8,7 +8,7 @@ use Rattle.plan_search.proofs.WholeChosen.{whole_divides, whole_least_once}
 use Rattle.commands.specs.Planned.{IsAdmitted, IsBarred, IsPlanned}
 use Rattle.tree_model.specs.Breakdown.{Breakdown}
 use Rattle.tree_model.specs.Chosen.{whole_cost}
-use Rattle.commands.proofs.Convolutions.OneConvolution.{power_clash, power_once}
+use Rattle.commands.proofs.ConvolutionLemmas.OneConvolution.{power_clash, power_once}
 
 -- ---- tree
 

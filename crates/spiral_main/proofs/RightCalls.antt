@@ -44,9 +44,9 @@ use Rattle.commands.specs.Input.Asking.{spelt}
 use Rattle.commands.specs.Input.Commands.{procs_named}
 use Rattle.commands.specs.Input.Orders.{procs_in}
 use Rattle.commands.specs.Input.Stage.{Stage, ◌>>=◌}
-use Rattle.commands.proofs.Convolutions.OneConvolution.{conv_planned_decided}
-use Rattle.commands.proofs.Formulas.OneFormula.{formed_decided, written_decided}
-use Rattle.commands.proofs.Listings.OneExecution.{loaded_decided}
+use Rattle.commands.proofs.ConvolutionLemmas.OneConvolution.{conv_planned_decided}
+use Rattle.commands.proofs.FormulaLemmas.OneFormula.{formed_decided, written_decided}
+use Rattle.commands.proofs.ListingLemmas.OneExecution.{loaded_decided}
 use Rattle.commands.proofs.Inputs.Stages.{IsDecided, answer_for}
 use Rattle.spiral_main.specs.Outcome.{Accounts, IsOutcome}
 use Rattle.spiral_main.specs.Right.{AreRightData, AreRightVectors, BeginWithList, HasBudgetFor, IsRightCall}

@@ -17,7 +17,7 @@ use Rattle.matrix_meaning.proofs.Requests.{valid_by_powers}
 use Rattle.matrix_meaning.proofs.Roots.{HasItsRoot}
 use Rattle.plan_search.proofs.WholeChosen.{divides_plain, whole_divides, whole_exists, whole_is_least, whole_least_once}
 use Rattle.commands.specs.Planned.{IsPlanned, IsRooted}
-use Rattle.commands.proofs.Documents.{with_tree}
+use Rattle.commands.proofs.DocumentLemmas.{with_tree}
 use Rattle.commands.proofs.Inputs.Nested.{joined, no_unit}
 use Rattle.commands.proofs.Inputs.Within.{ordered_map}
 use Rattle.commands.specs.Equations.Check.{fitting}

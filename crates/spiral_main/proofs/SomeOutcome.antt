@@ -37,10 +37,10 @@ use Rattle.spl_ast.specs.Meaning as meanings
 use Rattle.spiral_words.specs.declared.statuses.status.Status.{Status}
 use Rattle.spiral_words.specs.declared.statuses.status.Status.TheVariants.{Success, TooLong, Usage}
 use Rattle.tree_model.specs.Breakdown.{Breakdown}
-use Rattle.commands.proofs.Convolutions.Existence.{conv_planned_has}
+use Rattle.commands.proofs.ConvolutionLemmas.Existence.{conv_planned_has}
 use Rattle.commands.proofs.Existence.{plan_exists}
-use Rattle.commands.proofs.Formulas.Written.{formula_written}
-use Rattle.commands.proofs.Listings.Existence.{loaded_has}
+use Rattle.commands.proofs.FormulaLemmas.Written.{formula_written}
+use Rattle.commands.proofs.ListingLemmas.Existence.{loaded_has}
 use Rattle.commands.proofs.Inputs.Stages.{HasAnswer, both_have, given_has}
 use Rattle.commands.specs.Checked.{certificate_limit, status_of_verdict, verdict_text}
 use Rattle.commands.specs.Emission.Whole.{conv_emission}

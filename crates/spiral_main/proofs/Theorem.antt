@@ -9,7 +9,7 @@ use Rattle.commands.specs.Good.{IsVector}
 use Rattle.commands.specs.Planned.{IsPlanned}
 use Rattle.commands.specs.Input.Orders.{procs_in}
 use Rattle.commands.proofs.GoodPrograms.{programs_are_good}
-use Rattle.commands.proofs.Listings.OneExecution.{one_listing}
+use Rattle.commands.proofs.ListingLemmas.OneExecution.{one_listing}
 use Rattle.icode.proofs.BufferedRuns.{memory_of_buffered}
 use Rattle.icode.proofs.FreshCodes.{fresh_ignores_leftovers, programs_have_factors}
 use Rattle.icode.proofs.Lists.{code_is}

@@ -3,4 +3,4 @@ pub mod Contexts
 pub mod Distributing
 pub mod Residues
 pub mod Vectors
-pub mod Halves
+pub mod HalvesLemmas

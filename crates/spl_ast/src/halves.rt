@@ -36,7 +36,7 @@ pub fn balance(alloc: Global, formula: Spl) -> Result<Spl, NoMemory>
 
 // Appends the summands of a formula, each balanced.
 #[cycle(balance)]
-#[tactic(auto, using(crate::proofs::Halves::Lists::rows_more, crate::proofs::Halves::Sums::rows_alike))]
+#[tactic(auto, using(crate::proofs::HalvesLemmas::Lists::rows_more, crate::proofs::HalvesLemmas::Sums::rows_alike))]
 fn add_summands(alloc: Global, parts: &mut Vec<Spl>, formula: Spl) -> Result<(), NoMemory>
     requires apart { All IsSummand parts.old.items }
     ensures apart { OnOk result (All IsSummand parts.new.items) }
@@ -84,7 +84,7 @@ fn add_summands(alloc: Global, parts: &mut Vec<Spl>, formula: Spl) -> Result<(),
 }
 
 // The sum of the last `count` parts, in halves, which it takes away.
-#[tactic(auto, using(crate::proofs::Halves::Lists::rows_more, crate::proofs::Halves::Depths::single_sum, crate::proofs::Halves::Depths::sum_of_halves, crate::proofs::Halves::Balanced::single_taken, crate::proofs::Halves::Balanced::halves_taken))]
+#[tactic(auto, using(crate::proofs::HalvesLemmas::Lists::rows_more, crate::proofs::HalvesLemmas::Depths::single_sum, crate::proofs::HalvesLemmas::Depths::sum_of_halves, crate::proofs::HalvesLemmas::Balanced::single_taken, crate::proofs::HalvesLemmas::Balanced::halves_taken))]
 fn take_sum(alloc: Global, parts: &mut Vec<Spl>, count: usize) -> Result<Spl, NoMemory>
     requires some { 1 ≤ count }
     requires there { count ≤ vec_len parts.old }

@@ -12,8 +12,8 @@ use Rattle.icode.specs.Actions.{RegistersFit}
 use Rattle.icode.specs.Machine.{Local, effect, memory_after, value_put, register_put, register_of, words_at}
 use Rattle.icode.specs.Machine.{with_words, lane_by_lane}
 use Rattle.icode.proofs.Words.{with_words-agree, with_words-other, length-words_at}
-use Rattle.icode.proofs.Sequences.ByLane.{length-registers_after}
-use Rattle.icode.proofs.Sequences.Placing.{length-lane_by_lane, length-slice_set, with_words_there}
+use Rattle.icode.proofs.SequenceLemmas.ByLane.{length-registers_after}
+use Rattle.icode.proofs.SequenceLemmas.Placing.{length-lane_by_lane, length-slice_set, with_words_there}
 use Rattle.nests.proofs.Swaps.{register_agrees, tile_agrees}
 
 -- ---- lists

@@ -7,7 +7,7 @@ use Rattle.std.proofs.lemmas.List.{map-append}
 use Rattle.smp_rewrite.specs.Smp as smp
 use Rattle.smp_rewrite.specs.Cut.{layout_smp, smp_of}
 use Rattle.smp_rewrite.specs.Layout.Meaning.{all_on}
-use Rattle.smp_rewrite.proofs.Layout.StepMeanings.{all_on-append}
+use Rattle.smp_rewrite.proofs.LayoutLemmas.StepMeanings.{all_on-append}
 use Rattle.smp_rewrite.specs.Fits.{CanShareLayout}
 use Rattle.smp_rewrite.specs.Layout.Tree.{Layout}
 use Rattle.smp_rewrite.specs.Layout.Whole.{Whole, closed_on, closing_cost}

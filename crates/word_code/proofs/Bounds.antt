@@ -4,7 +4,7 @@ use Rattle.std.proofs.Common.{◌∙◌, subst, arith, mul-le-mul_left, ⊎_elim
 use Rattle.std.specs.Prelude.{slice_index, slice_set}
 use Rattle.std.proofs.lemmas.Bool.{cases_lt}
 use Rattle.icode.specs.Machine.{with_words, register_of}
-use Rattle.icode.proofs.Sequences.Placing.{with_words_elsewhere}
+use Rattle.icode.proofs.SequenceLemmas.Placing.{with_words_elsewhere}
 use Rattle.word_code.proofs.Residues.{AllBelow, below-words_at}
 
 set_here : (xs : List ℕ) (i v bound : ℕ) → v < bound → slice_index (slice_set xs i v) i < bound

@@ -12,7 +12,7 @@ use Rattle.icode.specs.Leftovers.{Leftovers, AreLeftovers, start_among, with_fil
 use Rattle.icode.specs.Machine.{Code, IsCode, State, Local, acts, start, completion, padded, words_at, with_words}
 use Rattle.icode.specs.Machine.{lane_by_lane, register_of}
 use Rattle.icode.specs.Plain.{PlainOp, Load, Store, Zero, Add, Sub, Neg, MulConst, MulTable, Tile}
-use Rattle.icode.proofs.Sequences.Placing.{length-with_words, length-lane_by_lane, length-mapped}
+use Rattle.icode.proofs.SequenceLemmas.Placing.{length-with_words, length-lane_by_lane, length-mapped}
 use Rattle.icode.proofs.FreshActions.{SameRegister, ReadsSame, LeavesSame, same_register_of, apart_registers, tile_same}
 use Rattle.icode.proofs.FreshActions.{tile_length, width_put, put_leaves_same, second_item}
 use Rattle.icode.proofs.FreshCodes.{from_loop, from_both, from_one, contains_at, factors_wide, programs_have_factors}

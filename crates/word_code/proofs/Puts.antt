@@ -11,7 +11,7 @@ use Rattle.icode.specs.declared.action.Action.TheVariants.{Load, Store, Zero, Ad
 use Rattle.icode.specs.Machine.{Local, effect, value_put, memory_after, register_put, register_of, with_words}
 use Rattle.icode.specs.Machine.{lane_by_lane}
 use Rattle.icode.proofs.Words.{length-words_at}
-use Rattle.icode.proofs.Sequences.Placing.{length-lane_by_lane, length-mapped}
+use Rattle.icode.proofs.SequenceLemmas.Placing.{length-lane_by_lane, length-mapped}
 use Rattle.word_code.specs.Laws.{IsLazyWithin}
 use Rattle.word_code.specs.Words.{base_of, sums_of, product_bound, wrapped_sum, wrapped_difference, biased_difference}
 use Rattle.word_code.specs.Words.{lazy_product}

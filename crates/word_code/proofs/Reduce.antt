@@ -10,7 +10,7 @@ use Rattle.std.proofs.lemmas.List.Elements.{All-nil, All-cons}
 use Rattle.std.proofs.lemmas.Nat.{div-add-mod', mod_below}
 use Rattle.icode.specs.Machine.{words_at, with_words, register_of}
 use Rattle.icode.proofs.Words.{length-words_at}
-use Rattle.icode.proofs.Sequences.Placing.{length-mapped}
+use Rattle.icode.proofs.SequenceLemmas.Placing.{length-mapped}
 use Rattle.word_code.specs.Bare.{ReductionFits}
 use Rattle.word_code.specs.Words.{reduced}
 use Rattle.word_code.specs.declared.program.Reduction.{Reduction}

@@ -22,7 +22,7 @@ use tree_model::{Ctx, Tree, admissible};
 use worked_rows::{check, joined, numbers};
 
 // What is asked for of `x`, by the terms of the tree, each by its definition.
-#[tactic(auto, using(sigma_spl::proofs::Plain::Fitting::good_fit))]
+#[tactic(auto, using(sigma_spl::proofs::PlainLemmas::Fitting::good_fit))]
 fn times(alloc: Global, c: &Ctx, tree: &Tree, x: &[u64]) -> Result<Vec<u64>, NoMemory>
     requires tree { IsWholeTree c.now (breakdown_of tree.now) }
     requires vector { IsVector c.now.modulus c.now.size x.now }

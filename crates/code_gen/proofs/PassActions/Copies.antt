@@ -16,7 +16,7 @@ use Rattle.sigma_spl.specs.Copies.{loops_of, all_stored}
 use Rattle.sigma_spl.specs.Nest.{PlainNest, PlainMultiplier, load_place, store_place, copies_of, multiplied_on}
 use Rattle.sigma_spl.specs.Nest.{nests_on}
 use Rattle.sigma_spl.specs.Work.{PlainWork, tile, work_size, vectors_of, kernel, rows, horner, copy, work_on, trees_of}
-use Rattle.icode.proofs.Sequences.Fills.{word}
+use Rattle.icode.proofs.SequenceLemmas.Fills.{word}
 use Rattle.icode.specs.Machine.{Local}
 use Rattle.operators.specs.Sum.{list_below}
 use Rattle.operators.proofs.Places.{turn_at}

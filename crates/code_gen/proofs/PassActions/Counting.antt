@@ -20,7 +20,7 @@ use Rattle.operators.specs.declared.target.Target.{Target}
 use Rattle.sigma_spl.specs.Counts.{copies_in, multiplier_cost}
 use Rattle.sigma_spl.specs.Nest.{PlainMultiplier, PlainNest}
 use Rattle.sigma_spl.specs.Shared.Names.{Share, lanes_round, own_copies, share_of}
-use Rattle.icode.proofs.Sequences.ByLane.{weighted_is_by_lane, weight_of_one}
+use Rattle.icode.proofs.SequenceLemmas.ByLane.{weighted_is_by_lane, weight_of_one}
 use Rattle.kernel_gen.specs.Kernel.{trees_kernel}
 use Rattle.tree_model.specs.KernelCosts.{trees_cost, CanMake}
 use Rattle.kernel_gen.proofs.Products.{trees-does}

@@ -4,7 +4,7 @@ use Rattle.std.proofs.Common.{◌∷◌, subst, mul_comm, Contains, slice_index,
 use Rattle.icode.specs.declared.action.Action.{Action}
 use Rattle.icode.specs.declared.action.Action.TheVariants.{Tile}
 use Rattle.icode.specs.Sequences.Nests.{AreInRange}
-use Rattle.icode.proofs.Sequences.Fills.{Fills, fills-none, fills-append, fills-fewer, fills-nest}
+use Rattle.icode.proofs.SequenceLemmas.Fills.{Fills, fills-none, fills-append, fills-fewer, fills-nest}
 use Rattle.kernel_gen.specs.KernelOps.{actions_by}
 use Rattle.kernel_gen.specs.Kernel.{trees_kernel}
 use Rattle.kernel_gen.proofs.Products.{trees-does}

@@ -6,12 +6,12 @@ use Rattle.icode.specs.declared.action.Action.{Action}
 use Rattle.icode.specs.declared.action.Action.TheVariants.{Store, Mul}
 use Rattle.icode.specs.Machine.{Local, effect, effects}
 use Rattle.icode.specs.Sequences.Lanes.{lane_of, Registers}
-use Rattle.icode.proofs.Sequences.Fills.{word, Fills, fills-after}
-use Rattle.icode.proofs.Sequences.Stores.{other_word, length-memory, length-registers, Stored, store_fills}
+use Rattle.icode.proofs.SequenceLemmas.Fills.{word, Fills, fills-after}
+use Rattle.icode.proofs.SequenceLemmas.Stores.{other_word, length-memory, length-registers, Stored, store_fills}
 use Rattle.icode.specs.Actions.{lane_factors}
 use Rattle.operators.specs.Sum.{list_below}
 use Rattle.operators.proofs.Lists.{length-list_below, at-list_below}
-use Rattle.icode.proofs.Sequences.ByLane.{effect_by_lane, this_register}
+use Rattle.icode.proofs.SequenceLemmas.ByLane.{effect_by_lane, this_register}
 use Rattle.operators.specs.declared.target.Target.{Target}
 use Rattle.sigma_spl.specs.Shared.Machine.{item_of, values_of}
 use Rattle.ring_mod.specs.Residue.{product_mod}

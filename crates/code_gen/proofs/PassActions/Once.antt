@@ -5,7 +5,7 @@ use Rattle.std.proofs.lemmas.Bool.{cases_eq}
 use Rattle.std.proofs.lemmas.Bool.Decides.{nat_tests}
 use Rattle.operators.specs.Sum.{sum_below}
 use Rattle.operators.proofs.Scatters.{sum_below-only, hit}
-use Rattle.operators.proofs.Paths.PathLoops.{sum_below-zero}
+use Rattle.operators.proofs.PathLemmas.PathLoops.{sum_below-zero}
 use Rattle.sigma_spl.specs.Copies.{loops_of, taken, stored, all_stored, hits}
 use Rattle.sigma_spl.specs.Nest.{PlainNest, copies_of}
 use Rattle.sigma_spl.proofs.CopiesMerge.{nest-none}

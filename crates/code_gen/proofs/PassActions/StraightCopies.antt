@@ -8,23 +8,23 @@ use Rattle.icode.specs.declared.action.Action.TheVariants.{Mul, Tile, Load, Zero
 use Rattle.icode.specs.Machine.{Local, effect, effects}
 use Rattle.icode.specs.Sequences.Lanes.{Registers, lane_of, AreArithmetic, lane_effect, with_register}
 use Rattle.icode.specs.Sequences.Nests.{bodies, loads}
-use Rattle.icode.proofs.Sequences.ByLane.{effect_by_lane, other_register, lists_follow, arithmetic_is_by_lane}
-use Rattle.icode.proofs.Sequences.Fills.{Fills, fills-loop, fills-after}
-use Rattle.icode.proofs.Sequences.Stores.{Stored, loads-memory, loads-registers, load_by_lane, length-registers}
+use Rattle.icode.proofs.SequenceLemmas.ByLane.{effect_by_lane, other_register, lists_follow, arithmetic_is_by_lane}
+use Rattle.icode.proofs.SequenceLemmas.Fills.{Fills, fills-loop, fills-after}
+use Rattle.icode.proofs.SequenceLemmas.Stores.{Stored, loads-memory, loads-registers, load_by_lane, length-registers}
 use Rattle.operators.specs.declared.target.Target.{Target}
 use Rattle.sigma_spl.specs.Nest.{PlainMultiplier, PlainNest}
 use Rattle.code_gen.specs.PassActions.Acts.{store_at, finish_acts, with_multiplier, items_acts, load_at, rows_acts}
-use Rattle.icode.proofs.Sequences.Placing.{slice_index-map}
+use Rattle.icode.proofs.SequenceLemmas.Placing.{slice_index-map}
 use Rattle.kernel_gen.specs.KernelOps.{actions_by, code_effect}
 use Rattle.kernel_gen.specs.Making.{Made}
 use Rattle.kernel_gen.proofs.Below.{AllBelow, AllBelow-at, at-AllBelow}
 use Rattle.kernel_gen.proofs.KernelOps.{actions-arithmetic, actions-effect}
-use Rattle.kernel_gen.proofs.Kernels.{firsts, map-firsts}
+use Rattle.kernel_gen.proofs.KernelLemmas.{firsts, map-firsts}
 use Rattle.kernel_gen.proofs.Pieces.{DoesAt}
 use Rattle.operators.specs.Operator.{Operator}
 use Rattle.operators.specs.Sum.{list_below, sum_below}
 use Rattle.operators.proofs.Lists.{length-list_below, at-list_below, list_below-same}
-use Rattle.icode.proofs.Sequences.Tiles.{tile_by_lane}
+use Rattle.icode.proofs.SequenceLemmas.Tiles.{tile_by_lane}
 use Rattle.icode.specs.Actions.{lane_factors}
 use Rattle.ring_mod.proofs.Congruence.{same-add}
 use Rattle.code_gen.proofs.PassActions.Finish.{register, Task, IsReady, AreInputs, AreOutputs, ready-after_store}

@@ -9,7 +9,7 @@ use Rattle.icode.specs.Plain.{PlainBody, PlainProgram, NoStmts, AndStmts, PlainO
 use Rattle.code_gen.specs.PassCode.Statements.{followed_by, do_only, in_a_row, nested}
 use Rattle.icode.specs.declared.action.Action.{Action}
 use Rattle.icode.specs.Sequences.Nests.{bodies, nest, AreInRange}
-use Rattle.icode.proofs.Sequences.Statements.{range-last}
+use Rattle.icode.proofs.SequenceLemmas.Statements.{range-last}
 use Rattle.code_gen.specs.PassCode.Conditions.{IsInside}
 
 -- ---- the steps of statements in a row, and of loops

@@ -21,7 +21,7 @@ use Rattle.sigma_spl.specs.Shared.Owners.{most_actions, all_passes}
 use Rattle.code_gen.specs.PassActions.Laws.{IsFit}
 use Rattle.code_gen.specs.PassCode.Program.{written_array, most_of, array_after, count_in, phases_body, program_of}
 use Rattle.code_gen.specs.PassCode.Program.{tables_of_phases, tables_through}
-use Rattle.icode.proofs.Sequences.Placing.{slice_index-words_at}
+use Rattle.icode.proofs.SequenceLemmas.Placing.{slice_index-words_at}
 use Rattle.icode.specs.Limits.{IsWithinLimits, is_body_within}
 use Rattle.icode.specs.Machine.{Code, IsApart, Whole, phases_alone, results, runs, start, whole_lines, words_at}
 use Rattle.icode.specs.declared.program.Array.TheVariants.{X, Y}

@@ -3,7 +3,7 @@ use Rattle.std.proofs.Common.{◌≡◌, ◌≢◌, ℕ, zero, suc, ◌+◌, ◌
 use Rattle.std.proofs.Common.{refl, sym, ap, ap₂, ◌∙◌, arith, subst, get_or-set_same, get_or-set_other, length-set}
 use Rattle.std.proofs.Common.{mul-le-mul_right, slice_index, slice_index_or, slice_set}
 use Rattle.std.proofs.lemmas.Bool.{cases_eq}
-use Rattle.icode.proofs.Sequences.Stores.{length-memory, length-registers}
+use Rattle.icode.proofs.SequenceLemmas.Stores.{length-memory, length-registers}
 use Rattle.icode.specs.Actions.{array_start}
 use Rattle.icode.specs.Machine.{Code, Local, Whole, acts, effects, processor_alone, processors_alone, phases_alone}
 use Rattle.icode.specs.declared.action.Action.{Action}

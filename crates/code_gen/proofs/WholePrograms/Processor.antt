@@ -26,8 +26,8 @@ use Rattle.sigma_spl.specs.Shared.Owners.{all_passes, AllOwn, FirstOwns}
 use Rattle.code_gen.specs.PassActions.Laws.{Runs, AreApart, CanBegin, Leaves}
 use Rattle.code_gen.specs.PassCode.Program.{count_in, written_array, array_after, most_of, most_of_phases}
 use Rattle.icode.specs.declared.program.Array.TheVariants.{X, Y, A, B}
-use Rattle.icode.proofs.Sequences.ByLane.{lists_follow}
-use Rattle.icode.proofs.Sequences.Stores.{length-memory, length-registers}
+use Rattle.icode.proofs.SequenceLemmas.ByLane.{lists_follow}
+use Rattle.icode.proofs.SequenceLemmas.Stores.{length-memory, length-registers}
 use Rattle.icode.specs.Machine.{Local, effects}
 use Rattle.sigma_spl.specs.Merged.{phase_on}
 use Rattle.code_gen.proofs.PassActions.Copies.{modulus-some, nest-can, first_value, in_counts, under-several}

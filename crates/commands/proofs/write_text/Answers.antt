@@ -1,7 +1,7 @@
 use Rattle.std.proofs.lemmas.Result.{err_from_is_err_and}
 use Rattle.commands.specs.Equations.Orders.{chosen}
 use Rattle.commands.specs.Equations.Requests.{document_work}
-use Rattle.commands.proofs.Documents.{document_meets, document_cut}
+use Rattle.commands.proofs.DocumentLemmas.{document_meets, document_cut}
 use Rattle.commands.proofs.Inputs.StageLemmas.{stage_meets_nothing}
 use Rattle.commands.proofs.write_text.Goals as goal
 

@@ -7,7 +7,7 @@ use Rattle.sigma_spl.specs.Work as works
 use Rattle.sigma_spl.specs.Work.{PlainWork}
 use Rattle.smp_rewrite.specs.Layout.Tree as layouts
 use Rattle.smp_rewrite.specs.Layout.Tree.{Layout, work, by, layout_of, layout_size}
-use Rattle.smp_rewrite.proofs.Layout.Layouts.{layouts_have_size}
+use Rattle.smp_rewrite.proofs.LayoutLemmas.Layouts.{layouts_have_size}
 use Rattle.tree_model.specs.Breakdown.{Breakdown, leaf, node, size_of}
 use Rattle.tree_model.specs.Cost.{is_kernel, node_root}
 use Rattle.tree_model.specs.Whole.{left_of, right_of}

@@ -21,7 +21,7 @@ use Rattle.sigma_spl.specs.Loops.{limits_in, multiplier_of, nest_of, one_nest, p
 use Rattle.sigma_spl.specs.Merge.{items_in, items_out}
 use Rattle.sigma_spl.specs.Nest.{PlainFactors, PlainNest}
 use Rattle.sigma_spl.specs.Limits.{AreSeveral}
-use Rattle.operators.proofs.Paths.Under.{size_under-copies}
+use Rattle.operators.proofs.PathLemmas.Under.{size_under-copies}
 use Rattle.generate.proofs.Emission.Nested.{plain_work, bounds, each, emitted_nest, multiplier_at, nest_at, nest_with}
 use Rattle.sigma_spl.specs.Nest as sums
 

@@ -27,7 +27,7 @@ use Rattle.sigma_lower.proofs.TreeLoops.Shaped.{HasWorks}
 use Rattle.sigma_spl.specs.Work.{PlainWork, work_size}
 use Rattle.smp_rewrite.specs.Layout.Tree.{Layout, work, by, layout_size, IsGoodLayout}
 use Rattle.operators.specs.declared.paths.Tensor.{Tensor}
-use Rattle.operators.proofs.Paths.Under.{size_under-push}
+use Rattle.operators.proofs.PathLemmas.Under.{size_under-push}
 use Rattle.generate.specs.Emission.Passes.{Factors, Pass, Site, entries, left_site, moved, none, right_site, twiddles}
 use Rattle.generate.proofs.Emission.Layouts.{layout_emitted, named, named-plain}
 use Rattle.generate.proofs.Emission.Matches.{ArePasses, AreSame, IsAround, IsLast, IsSame, all-free, at_last-none}

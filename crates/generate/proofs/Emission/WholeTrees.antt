@@ -27,7 +27,7 @@ use Rattle.sigma_spl.specs.Shared.Targets.{is_alone, target_of}
 use Rattle.smp_rewrite.specs.Fits.{CanShareLayout, HasParts}
 use Rattle.smp_rewrite.specs.Layout.Tree.{IsGoodLayout, Layout, by, layout_of, layout_size, node_work, work}
 use Rattle.smp_rewrite.specs.Layout.Whole.{factor_by, whole_of}
-use Rattle.smp_rewrite.proofs.Layout.Layouts.{layouts_have_size}
+use Rattle.smp_rewrite.proofs.LayoutLemmas.Layouts.{layouts_have_size}
 use Rattle.operators.specs.Paths.Tensors.{count_of}
 use Rattle.tree_model.proofs.PassLaws.{root_no_kernel}
 use Rattle.tree_model.specs.Breakdown.{Breakdown, leaf, node, size_of}

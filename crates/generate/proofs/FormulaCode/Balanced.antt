@@ -7,7 +7,7 @@ use Rattle.std.proofs.lemmas.Bool.Decides.{nat_tests}
 use Rattle.std.proofs.lemmas.Grind.{flat_map-append}
 use Rattle.spl_ast.specs.Halves.Balanced.{halved, balanced, balanced_summands}
 use Rattle.spl_ast.specs.Halves.Summands.{summands, sum_of}
-use Rattle.spl_ast.proofs.Halves.Grouping.{KnowsSums, from_right}
+use Rattle.spl_ast.proofs.HalvesLemmas.Grouping.{KnowsSums, from_right}
 use Rattle.spl_ast.specs.Formula.{Formula, Identity, Product, TensorLeft, TensorRight, DirectSum, Pending, size_of}
 use Rattle.spl_ast.specs.Shape.{IsShaped}
 use Rattle.spl_ast.proofs.Vectors.{shaped_size}

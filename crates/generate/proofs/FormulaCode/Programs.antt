@@ -9,7 +9,7 @@ use Rattle.sigma_lower.specs.Terms.{term_of}
 use Rattle.generate.specs.FormulaPasses.Computes.{formula_merged}
 use Rattle.icode.specs.Plain.{PlainProgram}
 use Rattle.loop_merge.specs.Coalescing.Copies.{all_coalesced}
-use Rattle.loop_merge.proofs.Coalescing.Passes.{coalesced-order}
+use Rattle.loop_merge.proofs.CoalescingLemmas.Passes.{coalesced-order}
 use Rattle.loop_merge.proofs.PlainPasses.{in_order_reversed}
 use Rattle.sigma_spl.specs.Shared.Machine.{plain_machine}
 use Rattle.code_gen.specs.PassCode.Contract.{Performs}
@@ -26,7 +26,7 @@ use Rattle.generate.specs.GoodPrograms.{FormulaProgramsAreCode}
 use Rattle.code_gen.proofs.WholePrograms.Performs.{programs_perform}
 use Rattle.code_gen.proofs.WholePrograms.ReadyPrograms.{ready_can_program}
 use Rattle.spl_ast.specs.Halves.Balanced.{balanced}
-use Rattle.spl_ast.proofs.Halves.Sums.{same_matrix}
+use Rattle.spl_ast.proofs.HalvesLemmas.Sums.{same_matrix}
 use Rattle.generate.proofs.FormulaPasses.Programs.{formulas_are_ready, formulas_compute}
 use Rattle.generate.proofs.Performed.{among-leftovers, any-turns}
 use Rattle.generate.proofs.FormulaCode.Balanced.{balanced_alike, balanced_shaped}

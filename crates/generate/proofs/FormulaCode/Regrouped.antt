@@ -1,8 +1,8 @@
 -- The code of a formula is that of every formula with the same summands.
 use Rattle.std.proofs.Common.{◌≡◌, ℕ, ◌+◌, ◌*◌, ◌≤◌, ◌∙◌, refl, sym, subst, arith, ap, ap₂, add_assoc}
 use Rattle.spl_ast.specs.Halves.Summands.{summands}
-use Rattle.spl_ast.proofs.Halves.Grouping.{KnowsSums}
-use Rattle.spl_ast.proofs.Halves.Sums.{alike, parts_alike}
+use Rattle.spl_ast.proofs.HalvesLemmas.Grouping.{KnowsSums}
+use Rattle.spl_ast.proofs.HalvesLemmas.Sums.{alike, parts_alike}
 use Rattle.generate.specs.FormulaCode.Code.{IsCodeOf}
 use Rattle.sigma_lower.specs.Operations.{operations}
 use Rattle.icode.specs.Plain.{PlainProgram}

@@ -14,7 +14,7 @@ use Rattle.sigma_lower.specs.Terms.{term_of}
 use Rattle.sigma_lower.proofs.Compiling.{formulas_compile}
 use Rattle.generate.specs.FormulaPasses.Laws.{FormulasAreReady}
 use Rattle.sigma_lower.proofs.FormulaPasses.Plain.{passes-plain}
-use Rattle.loop_merge.proofs.Coalescing.Passes.{coalesced_are_plain, coalesced_mean, coalesced_cost}
+use Rattle.loop_merge.proofs.CoalescingLemmas.Passes.{coalesced_are_plain, coalesced_mean, coalesced_cost}
 use Rattle.loop_merge.proofs.PlainPasses.{plain_are_ready, plain_on}
 use Rattle.loop_merge.specs.Coalescing.Copies.{all_coalesced}
 use Rattle.sigma_spl.specs.Shared.Costs.{work_cost, pass_cost}

@@ -7,7 +7,7 @@ use Rattle.sigma_lower.specs.Merged.{sigma_of, tree_merged, whole_sigma}
 use Rattle.sigma_spl.specs.Merged.{PlainMerged, merged_on}
 use Rattle.sigma_spl.specs.Shared.Targets.{target_of}
 use Rattle.sigma_spl.specs.Sigma.{PlainSigma, merged_of}
-use Rattle.smp_rewrite.proofs.Layout.Wholes.{forward_tree, wholes_do}
+use Rattle.smp_rewrite.proofs.LayoutLemmas.Wholes.{forward_tree, wholes_do}
 use Rattle.smp_rewrite.specs.Cut.{smp_of}
 use Rattle.smp_rewrite.specs.Layout.Whole.{whole_of}
 use Rattle.smp_rewrite.specs.Smp.{PlainSmp}

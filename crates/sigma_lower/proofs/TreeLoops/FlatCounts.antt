@@ -8,7 +8,7 @@ use Rattle.sigma_lower.proofs.Words.{right_tree, Breakdown, leaf, node, AllowsLe
 use Rattle.sigma_lower.proofs.Words.{Dim, kernel-short, node_of, layout_cost, long_work, node_work, FitsWhole}
 use Rattle.sigma_lower.proofs.Words.{layouts_cost, layouts_have_size, left_fits, is_plain, root_no_kernel, cost_in}
 use Rattle.sigma_lower.specs.TreeLoops.Laws.{loads_by}
-use Rattle.smp_rewrite.proofs.Layout.NodeTrees.{right_fits}
+use Rattle.smp_rewrite.proofs.LayoutLemmas.NodeTrees.{right_fits}
 use Rattle.tree_model.specs.Admissible.{RuleFits}
 use Rattle.tree_model.specs.Breakdown.{size_of}
 use Rattle.tree_model.specs.Passes as trees

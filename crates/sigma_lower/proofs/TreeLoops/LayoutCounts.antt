@@ -13,7 +13,7 @@ use Rattle.sigma_lower.proofs.TreeLoops.FlatCounts.{kernel-matches}
 use Rattle.matrix_meaning.specs.Parts.{first_of, rest_of}
 use Rattle.matrix_meaning.proofs.Parts.{first_is_one}
 use Rattle.kernel_gen.proofs.NodeTrees.{HasFields, left_fields, rest_is_part, right_fields}
-use Rattle.smp_rewrite.proofs.Layout.NodeTrees.{plain_fits}
+use Rattle.smp_rewrite.proofs.LayoutLemmas.NodeTrees.{plain_fits}
 use Rattle.tree_model.specs.Breakdown.{size_of, AllowsRule}
 use Rattle.tree_model.specs.WholePasses.{node_passes, passes_in, shared_passes}
 use Rattle.tree_model.specs.Passes as trees

@@ -6,7 +6,7 @@ use Rattle.sigma_lower.proofs.Words.{PlainNest, counted_cost, counted_loads, All
 use Rattle.sigma_lower.proofs.Words.{RequestPass, cost_of_pass, loads_of_pass}
 use Rattle.sigma_lower.proofs.TreeLoops.LayoutCounts.{layouts_count}
 use Rattle.matrix_meaning.proofs.Requests.{forward_is_valid}
-use Rattle.smp_rewrite.proofs.Layout.Wholes.{forward_fits}
+use Rattle.smp_rewrite.proofs.LayoutLemmas.Wholes.{forward_fits}
 use Rattle.tree_model.proofs.WholeTrees.{forward_size}
 use Rattle.sigma_lower.proofs.TreeSigmas.Counting.{layout_costs, layout_loads}
 use Rattle.sigma_lower.proofs.TreeSigmas.Owned.{pass_nests}

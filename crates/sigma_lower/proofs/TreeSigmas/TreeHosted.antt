@@ -7,7 +7,7 @@ use Rattle.sigma_lower.proofs.Words.{trees_size, IsSmallWork, kernel-short, node
 use Rattle.sigma_lower.proofs.TreeLayouts.{trees_can_lower}
 use Rattle.sigma_lower.proofs.TreeLoops.Shaped.{HasWorks}
 use Rattle.tree_model.proofs.RootedTrees.{rooted_size}
-use Rattle.smp_rewrite.proofs.Layout.Wholes.{forward_tree}
+use Rattle.smp_rewrite.proofs.LayoutLemmas.Wholes.{forward_tree}
 use Rattle.tree_model.specs.Breakdown.{size_of}
 use Rattle.tree_model.specs.Whole.{left_of, right_of, rooted_of}
 use Rattle.sigma_lower.proofs.TreeSigmas.Hosted.{IsHosted}

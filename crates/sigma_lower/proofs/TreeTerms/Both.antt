@@ -8,7 +8,7 @@ use Rattle.sigma_lower.specs.TreeTerms.Term.{terms_on, phases_on}
 use Rattle.sigma_lower.proofs.TreeTerms.Goods.{vec_good, phases_good}
 use Rattle.sigma_lower.proofs.TreeTerms.Lowering.{factors_on}
 use Rattle.smp_rewrite.proofs.Factors.{cut-factors}
-use Rattle.smp_rewrite.proofs.Layout.StepMeanings.{all_on-append}
+use Rattle.smp_rewrite.proofs.LayoutLemmas.StepMeanings.{all_on-append}
 
 -- ---- one phase after the other
 

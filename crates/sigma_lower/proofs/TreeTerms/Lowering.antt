@@ -24,7 +24,7 @@ use Rattle.smp_rewrite.specs.Layout.Tree.{IsGoodRule}
 use Rattle.smp_rewrite.proofs.Cores.{core-reads, core-gives}
 use Rattle.tree_model.proofs.Sizes.{word_sizes, one_le_size_of}
 use Rattle.operators.specs.Paths.Loop.{loop_on}
-use Rattle.operators.proofs.Paths.PathLoops.{loop_is_under}
+use Rattle.operators.proofs.PathLemmas.PathLoops.{loop_is_under}
 use Rattle.tree_model.specs.Breakdown.{size_of}
 use Rattle.vec_rewrite.specs.Vectors.{tiles}
 use Rattle.kernel_gen.proofs.KernelSizes.{trees-positive}

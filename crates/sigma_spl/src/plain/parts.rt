@@ -74,7 +74,7 @@ fn zeros(alloc: Global, size: u64) -> Result<Vec<u64>, NoMemory>
 }
 
 /// The diagonal under the tensors of the path, times `x`.
-#[tactic(auto, using(crate::proofs::Plain::Rooms::has_count, crate::proofs::Plain::Rooms::part_room))]
+#[tactic(auto, using(crate::proofs::PlainLemmas::Rooms::has_count, crate::proofs::PlainLemmas::Rooms::part_room))]
 pub(crate) fn multiplied(
     alloc: Global,
     m: &Modulus,
@@ -162,7 +162,7 @@ fn factor(m: &Modulus, factors: &Factors, i: u64) -> u64
 }
 
 // Which item of its copy, of size `n`, stands at the place `w`.
-#[tactic(auto, using(crate::proofs::Plain::Rooms::inner_of_blocks, crate::proofs::Plain::Rooms::inner_of_columns))]
+#[tactic(auto, using(crate::proofs::PlainLemmas::Rooms::inner_of_blocks, crate::proofs::PlainLemmas::Rooms::inner_of_columns))]
 fn item_in_copy(path: &[Tensor], n: u64, w: u64) -> u64
     requires room { HasRoom path.now n }
     requires inside { w < size_under path.now n }

@@ -37,7 +37,7 @@ impl Sigma {
 }
 
 // The terms, one after the other.
-#[tactic(auto, using(crate::proofs::Plain::Vectors::term_vector))]
+#[tactic(auto, using(crate::proofs::PlainLemmas::Vectors::term_vector))]
 fn terms_times(
     alloc: Global,
     m: &Modulus,
@@ -61,7 +61,7 @@ fn terms_times(
 
 // One term.
 #[cycle(terms)]
-#[tactic(auto, using(crate::proofs::Plain::Vectors::term_vector))]
+#[tactic(auto, using(crate::proofs::PlainLemmas::Vectors::term_vector))]
 fn times(alloc: Global, m: &Modulus, n: u64, t: &Term, x: &[u64]) -> Result<Vec<u64>, NoMemory>
     requires size { IsSize n }
     requires fits { Fits n (plain_term t.now) }

@@ -26,7 +26,7 @@ pub(crate) struct Alone {
 }
 
 /// The work on the items of a copy.
-#[tactic(auto, using(crate::proofs::Plain::Copies::copied))]
+#[tactic(auto, using(crate::proofs::PlainLemmas::Copies::copied))]
 pub(crate) fn worked(
     alloc: Global,
     m: &Modulus,

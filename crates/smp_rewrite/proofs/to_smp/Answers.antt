@@ -13,7 +13,7 @@ use Rattle.smp_rewrite.specs.Layout.Tree.{layout_of}
 use Rattle.kernel_gen.specs.Nodes.{IsNodeTree}
 use Rattle.sigma_spl.specs.Shared.Targets.{target_of}
 use Rattle.smp_rewrite.specs.Layout.Whole.{whole_of}
-use Rattle.smp_rewrite.proofs.Layout.Wholes.{forward_tree, wholes_are_good, wholes_do, wholes_cost}
+use Rattle.smp_rewrite.proofs.LayoutLemmas.Wholes.{forward_tree, wholes_are_good, wholes_do, wholes_cost}
 use Rattle.tree_model.specs.Breakdown.{breakdown_of}
 use Rattle.smp_rewrite.proofs.to_smp.Goals as goal
 

@@ -5,7 +5,7 @@ use Rattle.io_edge.specs.Feed.{limit}
 use Rattle.plan_cert.specs.declared.verdict.Verdict.TheVariants as verdict
 use Rattle.spiral_words.specs.Statuses.Fault.{status_of_generate}
 use Rattle.commands.proofs.CheckLemmas.{check_barred, check_unread, found_of, check_judged, check_cut}
-use Rattle.commands.proofs.Documents.{generate_refusal}
+use Rattle.commands.proofs.DocumentLemmas.{generate_refusal}
 use Rattle.commands.proofs.Inputs.StatusLemmas.{rest_usage, refusal_ends}
 use Rattle.commands.proofs.Inputs.OutcomeLemmas.{told_nothing}
 use Rattle.commands.proofs.check.check.Goals as goal

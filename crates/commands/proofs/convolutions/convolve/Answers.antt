@@ -7,7 +7,7 @@ use Rattle.commands.specs.Equations.Convolve.{outcomes_by_list}
 use Rattle.commands.specs.Equations.Front.{line}
 use Rattle.commands.specs.Equations.Orders.{turned}
 use Rattle.commands.specs.Input.Stage.{◌>>=◌, status_of}
-use Rattle.commands.proofs.Convolutions.ConvolvedLemmas.{by_line, list_within}
+use Rattle.commands.proofs.ConvolutionLemmas.ConvolvedLemmas.{by_line, list_within}
 use Rattle.commands.proofs.Inputs.FrontLemmas.{front_refused, front_told}
 use Rattle.commands.proofs.Inputs.LineLemmas.{line_is_front}
 use Rattle.commands.proofs.Inputs.Within.{told_within}

@@ -10,8 +10,8 @@ use Rattle.icode.specs.Program.{plain_program}
 use Rattle.runs.specs.Progress.{HasNoVector}
 use Rattle.commands.specs.Convolutions.Convolved.{list_work}
 use Rattle.commands.specs.Equations.Convolutions.{conv_chosen}
-use Rattle.commands.proofs.Convolutions.ConvolvedLemmas.{conv_refused, conv_refusal, convolves_lacking}
-use Rattle.commands.proofs.Documents.{with_tree}
+use Rattle.commands.proofs.ConvolutionLemmas.ConvolvedLemmas.{conv_refused, conv_refusal, convolves_lacking}
+use Rattle.commands.proofs.DocumentLemmas.{with_tree}
 use Rattle.commands.proofs.Inputs.StageLemmas.{stage_refused}
 use Rattle.commands.proofs.Inputs.OutcomeLemmas.{told_nothing, unread_nothing}
 use Rattle.commands.proofs.convolutions.listed_program.Goals as goal

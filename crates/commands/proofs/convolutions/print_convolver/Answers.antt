@@ -1,6 +1,6 @@
 use Rattle.std.proofs.Common.{◌<◌, arith, true}
 use Rattle.std.proofs.lemmas.Result.{err_from_is_err_and}
-use Rattle.commands.proofs.Convolutions.ConvolvedLemmas.{convolves_listing, convolves_cut}
+use Rattle.commands.proofs.ConvolutionLemmas.ConvolvedLemmas.{convolves_listing, convolves_cut}
 use Rattle.data_stream.proofs.TokensLemmas.{reports_none}
 use Rattle.spiral_words.specs.declared.statuses.status.Status.TheVariants.{NoMemory}
 use Rattle.commands.proofs.Inputs.StatusLemmas.{quiet_ends}

@@ -5,7 +5,7 @@ use Rattle.icode.specs.Machine.{runs}
 use Rattle.io_edge.specs.Feed.{to_come}
 use Rattle.spiral_words.specs.declared.statuses.status.Status.TheVariants.{NoMemory}
 use Rattle.schedules.specs.Turns.{turns_of}
-use Rattle.commands.proofs.Convolutions.ConvolvedLemmas.{list_come, convolves_run}
+use Rattle.commands.proofs.ConvolutionLemmas.ConvolvedLemmas.{list_come, convolves_run}
 use Rattle.commands.proofs.Inputs.StatusLemmas.{quiet_ends, run_ends}
 use Rattle.commands.proofs.Inputs.OutcomeLemmas.{told_nothing}
 use Rattle.commands.proofs.convolutions.run_convolver.Goals as goal

@@ -1,4 +1,4 @@
-use Rattle.commands.proofs.Documents.{c_document}
+use Rattle.commands.proofs.DocumentLemmas.{c_document}
 use Rattle.commands.proofs.documents.c_text.Goals as goal
 
 pub returns-clause-text : goal.returns-clause-text

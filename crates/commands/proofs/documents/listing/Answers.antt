@@ -1,4 +1,4 @@
-use Rattle.commands.proofs.Documents.{listing_document}
+use Rattle.commands.proofs.DocumentLemmas.{listing_document}
 use Rattle.commands.proofs.documents.listing.Goals as goal
 
 pub returns-clause-text : goal.returns-clause-text

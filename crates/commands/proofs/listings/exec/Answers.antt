@@ -5,7 +5,7 @@ use Rattle.commands.specs.Equations.Exec.{exec_work}
 use Rattle.commands.specs.Equations.Front.{part}
 use Rattle.commands.specs.Listings.Listed.{loaded}
 use Rattle.commands.proofs.Inputs.FrontLemmas.{text_refused}
-use Rattle.commands.proofs.Listings.ListedLemmas.{exec_unread, exec_told}
+use Rattle.commands.proofs.ListingLemmas.ListedLemmas.{exec_unread, exec_told}
 use Rattle.commands.proofs.listings.exec.Goals as goal
 
 pub returns-in_err-text-clause-told : goal.returns-in_err-text-clause-told

@@ -3,7 +3,7 @@ use Rattle.std.proofs.lemmas.Result.{err_from_is_err_and}
 use Rattle.icode.specs.Program.{plain_program}
 use Rattle.code_check.proofs.Phases.{limits_of}
 use Rattle.code_check.proofs.Whole.{passed_fits}
-use Rattle.commands.proofs.Listings.ListedLemmas.{unturned, loads}
+use Rattle.commands.proofs.ListingLemmas.ListedLemmas.{unturned, loads}
 use Rattle.commands.proofs.listings.loaded_program.Goals as goal
 
 pub returns-in_err-check_turns-clause-refused : goal.returns-in_err-check_turns-clause-refused

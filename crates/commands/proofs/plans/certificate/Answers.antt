@@ -1,5 +1,5 @@
 use Rattle.tree_model.specs.Breakdown.{breakdown_of}
-use Rattle.commands.proofs.Documents.{certificate_document}
+use Rattle.commands.proofs.DocumentLemmas.{certificate_document}
 use Rattle.commands.proofs.plans.certificate.Goals as goal
 
 pub returns-clause-text : goal.returns-clause-text

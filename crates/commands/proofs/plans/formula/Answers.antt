@@ -4,7 +4,7 @@ use Rattle.matrix_meaning.specs.declared.Request.{Request}
 use Rattle.spl_text.specs.Spelling.{spelling}
 use Rattle.tree_model.specs.Breakdown.{breakdown_of}
 use Rattle.spiral_words.specs.declared.Document.TheVariants as document
-use Rattle.commands.proofs.Documents.{document_of}
+use Rattle.commands.proofs.DocumentLemmas.{document_of}
 use Rattle.commands.proofs.plans.formula.Goals as goal
 
 pub returns-clause-text : goal.returns-clause-text

@@ -1,6 +1,6 @@
 use Rattle.spiral_words.specs.declared.Document.TheVariants as document
 use Rattle.tree_model.specs.Breakdown.{breakdown_of}
-use Rattle.commands.proofs.Documents.{document_of}
+use Rattle.commands.proofs.DocumentLemmas.{document_of}
 use Rattle.commands.proofs.plans.plan_lines.Goals as goal
 
 pub returns-clause-text : goal.returns-clause-text

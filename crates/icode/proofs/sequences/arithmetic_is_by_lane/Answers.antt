@@ -1,5 +1,5 @@
-use Rattle.icode.proofs.Sequences.ByLane.{arithmetic_is_by_lane, lists_follow, muls_are_by_lane, operations_are_by_lane}
-use Rattle.icode.proofs.Sequences.ByLane.{weighted_is_by_lane}
+use Rattle.icode.proofs.SequenceLemmas.ByLane.{arithmetic_is_by_lane, lists_follow, muls_are_by_lane, operations_are_by_lane}
+use Rattle.icode.proofs.SequenceLemmas.ByLane.{weighted_is_by_lane}
 use Rattle.icode.proofs.sequences.arithmetic_is_by_lane.Goals as goal
 
 pub returns-clause-lanes : goal.returns-clause-lanes

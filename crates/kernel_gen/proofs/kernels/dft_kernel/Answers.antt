@@ -6,7 +6,7 @@ use Rattle.tree_model.specs.KernelCosts.{kernel_cost}
 use Rattle.kernel_gen.specs.Kernel.{kernel_of}
 use Rattle.kernel_gen.specs.Kernels.{TransformsBy, CostsDefinition, IsStraight}
 use Rattle.kernel_gen.specs.Making.{Made}
-use Rattle.kernel_gen.proofs.Kernels.{definition_does, does_cost, does_straight, does_transform}
+use Rattle.kernel_gen.proofs.KernelLemmas.{definition_does, does_cost, does_straight, does_transform}
 use Rattle.kernel_gen.proofs.kernels.dft_kernel.Goals as goal
 
 pub returns-clause-transforms : goal.returns-clause-transforms

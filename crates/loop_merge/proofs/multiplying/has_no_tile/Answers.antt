@@ -3,7 +3,7 @@ use Rattle.std.specs.Prelude.{not}
 use Rattle.sigma_spl.specs.Merge.{is_tile}
 use Rattle.sigma_spl.specs.Nest.{PlainNest}
 use Rattle.sigma_spl.specs.Views.{plain_nest}
-use Rattle.loop_nests.proofs.Places.Sums.{fails-at}
+use Rattle.loop_nests.proofs.PlaceLemmas.Sums.{fails-at}
 use Rattle.loop_merge.proofs.multiplying.has_no_tile.Goals as goal
 
 pub returns-then-is_tile : goal.returns-then-is_tile

@@ -4,7 +4,7 @@ use Rattle.sigma_spl.specs.Views.{plain_factors}
 use Rattle.loop_nests.specs.Places.Known.{AreSteps}
 use Rattle.loop_nests.specs.Limits.Leading.{CanCarry}
 use Rattle.loop_nests.specs.Places.Views.{waiting_of}
-use Rattle.loop_nests.proofs.Places.Carries.{carry-places}
+use Rattle.loop_nests.proofs.PlaceLemmas.Carries.{carry-places}
 use Rattle.sigma_spl.proofs.Fitting.{has_count}
 use Rattle.loop_merge.proofs.Readies.{low}
 use Rattle.loop_merge.proofs.multiplying.with_diagonal.Goals as goal

@@ -2,7 +2,7 @@ use Rattle.std.proofs.Common.{◌≡◌, true, arith}
 use Rattle.std.specs.Prelude.{length, slice_index}
 use Rattle.sigma_spl.specs.Merge.{is_limited}
 use Rattle.perm_algebra.specs.Views.{plain_sum}
-use Rattle.loop_nests.proofs.Limits.RoomFacts.{value_inside}
+use Rattle.loop_nests.proofs.LimitLemmas.RoomFacts.{value_inside}
 use Rattle.loop_nests.proofs.limits.+carry_within.Goals as goal
 
 pub simplify_in_room-requires-clause-fits : goal.simplify_in_room-requires-clause-fits

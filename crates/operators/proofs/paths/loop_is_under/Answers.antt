@@ -1,4 +1,4 @@
-use Rattle.operators.proofs.Paths.PathLoops as laws
+use Rattle.operators.proofs.PathLemmas.PathLoops as laws
 use Rattle.operators.proofs.paths.loop_is_under.Goals as goal
 
 pub returns : goal.returns

@@ -1,4 +1,4 @@
-use Rattle.smp_rewrite.proofs.Layout.Layouts as laws
+use Rattle.smp_rewrite.proofs.LayoutLemmas.Layouts as laws
 use Rattle.smp_rewrite.proofs.layout.layouts_do.Goals as goal
 
 pub returns-clause-size : goal.returns-clause-size

@@ -1,4 +1,4 @@
-use Rattle.smp_rewrite.proofs.Layout.StepCosts as laws
+use Rattle.smp_rewrite.proofs.LayoutLemmas.StepCosts as laws
 use Rattle.smp_rewrite.proofs.layout.steps_cost.Goals as goal
 
 pub returns : goal.returns

@@ -1,4 +1,4 @@
-use Rattle.smp_rewrite.proofs.Layout.Wholes as laws
+use Rattle.smp_rewrite.proofs.LayoutLemmas.Wholes as laws
 use Rattle.smp_rewrite.proofs.layout.wholes_do.Goals as goal
 
 pub returns-clause-meaning : goal.returns-clause-meaning

@@ -1,4 +1,4 @@
-use Rattle.commands.proofs.Formulas.Programs.{formula_programs_are_code}
+use Rattle.commands.proofs.FormulaLemmas.Programs.{formula_programs_are_code}
 use Rattle.spiral_main.proofs.Good.{good_compile}
 use Rattle.spiral_main.proofs.answers.compile_is_good.Goals as goal
 

@@ -5,10 +5,10 @@ use Rattle.spl_ast.specs.Halves.Depth.{IsSummand}
 use Rattle.spl_ast.specs.Halves.Balanced.{balanced_summands}
 use Rattle.spl_ast.specs.Halves.Rows.{rows_of}
 use Rattle.spl_ast.specs.Halves.Summands.{summands}
-use Rattle.spl_ast.proofs.Halves.Depths.{leaf_summand}
-use Rattle.spl_ast.proofs.Halves.Balanced.{all_halved, leaf_alone}
-use Rattle.spl_ast.proofs.Halves.Lists.{all_taken, rows_more, summands_more}
-use Rattle.spl_ast.proofs.Halves.Sums.{same_matrix}
+use Rattle.spl_ast.proofs.HalvesLemmas.Depths.{leaf_summand}
+use Rattle.spl_ast.proofs.HalvesLemmas.Balanced.{all_halved, leaf_alone}
+use Rattle.spl_ast.proofs.HalvesLemmas.Lists.{all_taken, rows_more, summands_more}
+use Rattle.spl_ast.proofs.HalvesLemmas.Sums.{same_matrix}
 use Rattle.spl_ast.specs.Shape.{IsShaped}
 use Rattle.spl_ast.proofs.Vectors.{size_is_size}
 use Rattle.spl_ast.proofs.halves.+balance.Goals as goal

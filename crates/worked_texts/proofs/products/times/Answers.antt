@@ -1,6 +1,6 @@
 use Rattle.std.proofs.Common.{◌≡◌, ap, ◌∙◌, subst, sym}
 use Rattle.matrix_meaning.specs.declared.Request.{Request}
-use Rattle.sigma_spl.proofs.Plain.Fitting.{good_fit}
+use Rattle.sigma_spl.proofs.PlainLemmas.Fitting.{good_fit}
 use Rattle.sigma_spl.specs.Sigma.{sigma_on}
 use Rattle.sigma_spl.specs.Views.{plain_sigma}
 use Rattle.spl_ast.specs.Meaning.{IsVector}

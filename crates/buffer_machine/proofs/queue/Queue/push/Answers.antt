@@ -4,7 +4,7 @@ use Rattle.std.proofs.lemmas.List.{with_items_is}
 use Rattle.icode.specs.Buffers.{Waiting}
 use Rattle.icode.specs.Machine.{with_words, words_at}
 use Rattle.icode.proofs.Words.{length-words_at}
-use Rattle.icode.proofs.Sequences.Placing.{length-with_words}
+use Rattle.icode.proofs.SequenceLemmas.Placing.{length-with_words}
 use Rattle.buffer_machine.specs.Backlog.{Backlog}
 use Rattle.buffer_machine.proofs.Newest.{newest_push}
 use Rattle.buffer_machine.proofs.Windows.{window-push}

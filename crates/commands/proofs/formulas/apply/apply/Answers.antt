@@ -9,7 +9,7 @@ use Rattle.commands.specs.Input.Ends.{EndsCleanly}
 use Rattle.commands.specs.Input.Stage.{status_of}
 use Rattle.commands.specs.Equations.Front.{line}
 use Rattle.commands.proofs.Inputs.FrontLemmas.{text_refused}
-use Rattle.commands.proofs.Formulas.CompiledLemmas.{line_unread, apply_told}
+use Rattle.commands.proofs.FormulaLemmas.CompiledLemmas.{line_unread, apply_told}
 use Rattle.commands.proofs.formulas.apply.apply.Goals as goal
 
 pub returns-in_err-text-clause-told : goal.returns-in_err-text-clause-told

@@ -2,7 +2,7 @@ use Rattle.std.proofs.Common.{sym, subst, ◌∙◌, inl}
 use Rattle.std.proofs.lemmas.Result.{err_from_is_err_and}
 use Rattle.schedules.specs.Turns.{named}
 use Rattle.runs.specs.Stream.{HasNoStranger}
-use Rattle.commands.proofs.Formulas.CompiledLemmas.{unformed, forms}
+use Rattle.commands.proofs.FormulaLemmas.CompiledLemmas.{unformed, forms}
 use Rattle.commands.proofs.formulas.apply.formed_program.Goals as goal
 
 pub returns-in_err-formula-clause-refused : goal.returns-in_err-formula-clause-refused

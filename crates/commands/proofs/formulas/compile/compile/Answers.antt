@@ -5,7 +5,7 @@ use Rattle.commands.specs.Equations.Compile.{compile_work}
 use Rattle.commands.specs.Equations.Formulas.{written}
 use Rattle.commands.specs.Equations.Front.{line}
 use Rattle.commands.proofs.Inputs.FrontLemmas.{text_refused}
-use Rattle.commands.proofs.Formulas.CompiledLemmas.{line_unread, compile_told, compile_cut}
+use Rattle.commands.proofs.FormulaLemmas.CompiledLemmas.{line_unread, compile_told, compile_cut}
 use Rattle.commands.proofs.formulas.compile.compile.Goals as goal
 
 pub returns-in_err-text-clause-told : goal.returns-in_err-text-clause-told

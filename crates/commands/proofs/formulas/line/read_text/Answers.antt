@@ -5,7 +5,7 @@ use Rattle.std.proofs.lemmas.Result.{err_from_is_err_and}
 use Rattle.io_edge.specs.Told.{IsOver}
 use Rattle.io_edge.specs.Feed.{to_come}
 use Rattle.commands.specs.Equations.Front.{is_line_end}
-use Rattle.commands.proofs.Formulas.CompiledLemmas.{text_failed}
+use Rattle.commands.proofs.FormulaLemmas.CompiledLemmas.{text_failed}
 use Rattle.commands.proofs.Inputs.LineLemmas.{unended_push, line_ended, line_cut, line_longer}
 use Rattle.commands.proofs.formulas.line.read_text.Goals as goal
 

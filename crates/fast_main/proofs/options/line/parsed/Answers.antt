@@ -1,6 +1,6 @@
 use Rattle.std.proofs.Common.{map, string_bytes, ap}
 use Rattle.clap.specs.Words.{app_of}
-use Rattle.fast_main.proofs.Options.Refused.{refused, taken, found}
+use Rattle.fast_main.proofs.OptionLemmas.Refused.{refused, taken, found}
 use Rattle.fast_main.proofs.options.line.parsed.Goals as goal
 
 pub returns-in-Ok-clause-taken : goal.returns-in-Ok-clause-taken

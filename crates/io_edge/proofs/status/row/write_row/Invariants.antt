@@ -1,7 +1,7 @@
 use Rattle.std.proofs.Common.{take, ◌≡◌}
 use Rattle.std.specs.List.{flat_map}
 use Rattle.std.specs.Io.KnownBytes.{Appends}
-use Rattle.io_edge.proofs.Status.Lines.{text_of}
+use Rattle.io_edge.proofs.StatusLemmas.Lines.{text_of}
 use Rattle.io_edge.proofs.status.row.write_row.Given as goal
 
 -- the note took the parts before this one

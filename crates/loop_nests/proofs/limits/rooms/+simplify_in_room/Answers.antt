@@ -6,7 +6,7 @@ use Rattle.perm_algebra.specs.Affine.{constant, simplified}
 use Rattle.perm_algebra.specs.Contract.{EachValue, IsSimplified}
 use Rattle.perm_algebra.specs.Room.{has_room}
 use Rattle.perm_algebra.specs.Views.{plain_sum}
-use Rattle.loop_nests.proofs.Limits.Constants.{made_is, number_defined, number_form, number_room}
+use Rattle.loop_nests.proofs.LimitLemmas.Constants.{made_is, number_defined, number_form, number_room}
 use Rattle.loop_nests.proofs.limits.rooms.+simplify_in_room.Goals as goal
 
 pub at-requires-clause-defined : goal.at-requires-clause-defined

@@ -3,7 +3,7 @@ use Rattle.perm_algebra.specs.Affine.{added, value}
 use Rattle.perm_algebra.specs.Contract.{IsSumOver}
 use Rattle.perm_algebra.specs.Views.{plain_sum}
 use Rattle.perm_algebra.proofs.AffineLaws.{value-added}
-use Rattle.loop_nests.proofs.Limits.Constants.{made_is}
+use Rattle.loop_nests.proofs.LimitLemmas.Constants.{made_is}
 use Rattle.loop_nests.proofs.limits.rooms.add_in_room.Goals as goal
 
 pub returns-clause-value : goal.returns-clause-value

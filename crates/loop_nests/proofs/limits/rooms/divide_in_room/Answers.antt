@@ -4,7 +4,7 @@ use Rattle.perm_algebra.specs.Affine.{rest_of}
 use Rattle.perm_algebra.specs.Views.{plain_sum}
 use Rattle.perm_algebra.specs.declared.parts.Parts.{Parts}
 use Rattle.perm_algebra.proofs.Division.{affine_rest}
-use Rattle.loop_nests.proofs.Limits.RoomFacts.{top_there}
+use Rattle.loop_nests.proofs.LimitLemmas.RoomFacts.{top_there}
 use Rattle.loop_nests.proofs.limits.rooms.divide_in_room.Goals as goal
 
 pub top_of-requires : goal.top_of-requires

@@ -3,7 +3,7 @@ use Rattle.std.specs.Prelude.{slice_index, length}
 use Rattle.perm_algebra.specs.Affine.{mods}
 use Rattle.perm_algebra.specs.Views.{plain_sum}
 use Rattle.perm_algebra.proofs.Division.{affine_mods}
-use Rattle.loop_nests.proofs.Limits.RoomFacts.{top_there}
+use Rattle.loop_nests.proofs.LimitLemmas.RoomFacts.{top_there}
 use Rattle.loop_nests.proofs.limits.rooms.reduce_in_room.Goals as goal
 
 pub top_of-requires : goal.top_of-requires

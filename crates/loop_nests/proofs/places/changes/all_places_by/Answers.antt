@@ -2,8 +2,8 @@ use Rattle.index_fn.specs.Index.{mapping_of}
 use Rattle.sigma_spl.specs.Views.{plain_nest}
 use Rattle.loop_nests.specs.Places.Sides.{nest_can_take, places_by}
 use Rattle.loop_nests.specs.Places.Views.{plain_sums}
-use Rattle.loop_nests.proofs.Places.Passes.{ready-nest-at, side-within-at}
-use Rattle.loop_nests.proofs.Places.Sums.{fails-at, grown}
+use Rattle.loop_nests.proofs.PlaceLemmas.Passes.{ready-nest-at, side-within-at}
+use Rattle.loop_nests.proofs.PlaceLemmas.Sums.{fails-at, grown}
 use Rattle.loop_nests.proofs.places.changes.all_places_by.Goals as goal
 
 pub places_by-requires-clause-ready : goal.places_by-requires-clause-ready

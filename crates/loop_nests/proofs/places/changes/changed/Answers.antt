@@ -5,8 +5,8 @@ use Rattle.index_fn.specs.Index.{mapping_of}
 use Rattle.sigma_spl.specs.Views.{plain_nest}
 use Rattle.loop_nests.specs.Places.Sides.{changed, nest_can_take, places_by}
 use Rattle.loop_nests.specs.Places.Views.{plain_sums}
-use Rattle.loop_nests.proofs.Places.Changes.{nests_in}
-use Rattle.loop_nests.proofs.Places.Passes.{change-tests}
+use Rattle.loop_nests.proofs.PlaceLemmas.Changes.{nests_in}
+use Rattle.loop_nests.proofs.PlaceLemmas.Passes.{change-tests}
 use Rattle.loop_nests.proofs.places.changes.changed.Goals as goal
 
 pub returns-in-None-clause-refused : goal.returns-in-None-clause-refused

@@ -1,7 +1,7 @@
 use Rattle.std.proofs.Common.{◌∙◌, map}
 use Rattle.sigma_spl.specs.Views.{plain_nest}
 use Rattle.perm_algebra.specs.Views.{plain_sum}
-use Rattle.loop_nests.proofs.Places.Passes.{limited-of, ready-of}
+use Rattle.loop_nests.proofs.PlaceLemmas.Passes.{limited-of, ready-of}
 use Rattle.loop_nests.proofs.places.changes.places_by.Goals as goal
 
 pub simplified_sums-requires-clause-ready : goal.simplified_sums-requires-clause-ready

@@ -3,7 +3,7 @@ use Rattle.index_fn.specs.Index.{mapping_of}
 use Rattle.perm_algebra.specs.Affine.{simplified}
 use Rattle.perm_algebra.specs.Views.{plain_sum}
 use Rattle.loop_nests.specs.Limits.Leading.{can_lead}
-use Rattle.loop_nests.proofs.Places.Sums.{place-at, fails-at, grown, leads}
+use Rattle.loop_nests.proofs.PlaceLemmas.Sums.{place-at, fails-at, grown, leads}
 use Rattle.loop_nests.proofs.places.changes.simplified_sums.Goals as goal
 
 pub simplify_within-requires-clause-affine : goal.simplify_within-requires-clause-affine

@@ -2,7 +2,7 @@ use Rattle.std.specs.Prelude.{length, map, slice_index}
 use Rattle.index_fn.specs.Index.{mapping_of}
 use Rattle.sigma_spl.specs.Merge.{all_simplified, carries_sum}
 use Rattle.perm_algebra.specs.Views.{plain_sum}
-use Rattle.loop_nests.proofs.Places.Sums.{place-at, fails-at, grown}
+use Rattle.loop_nests.proofs.PlaceLemmas.Sums.{place-at, fails-at, grown}
 use Rattle.loop_nests.proofs.places.diagonals.carried_sums.Goals as goal
 
 pub carry_within-requires-clause-affine : goal.carry_within-requires-clause-affine

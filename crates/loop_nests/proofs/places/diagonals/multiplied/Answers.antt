@@ -2,8 +2,8 @@ use Rattle.sigma_spl.specs.Nest.{factor_count}
 use Rattle.sigma_spl.specs.Views.{plain_factors, plain_nest}
 use Rattle.loop_nests.specs.Places.Multiplied.{functions_of, nest_can_multiply, nest_multiplied}
 use Rattle.loop_nests.specs.declared.places.access.Access.TheVariants.{Stores}
-use Rattle.loop_nests.proofs.Places.Passes.{ready-nest-at, side-within-at}
-use Rattle.loop_nests.proofs.Places.Sums.{fails-at, grown}
+use Rattle.loop_nests.proofs.PlaceLemmas.Passes.{ready-nest-at, side-within-at}
+use Rattle.loop_nests.proofs.PlaceLemmas.Sums.{fails-at, grown}
 use Rattle.std.proofs.Common.{◌≡◌, true, false, subst}
 use Rattle.loop_nests.proofs.places.diagonals.multiplied.Goals as goal
 

@@ -5,7 +5,7 @@ use Rattle.perm_algebra.specs.Views.{plain_sum}
 use Rattle.loop_nests.specs.Places.Multiplied.{functions_of, nest_multiplied}
 use Rattle.loop_nests.specs.Places.Sums.{all_limits, can_carry_all, carried_by}
 use Rattle.loop_nests.specs.Places.Views.{mappings_of, multiplied_by}
-use Rattle.loop_nests.proofs.Limits.Constants.{made_is}
+use Rattle.loop_nests.proofs.LimitLemmas.Constants.{made_is}
 use Rattle.loop_nests.proofs.places.diagonals.multiplied_anew.Goals as goal
 
 pub returns-clause-some : goal.returns-clause-some

@@ -2,7 +2,7 @@ use Rattle.std.proofs.Common.{sym, ap, ◌∙◌, [], map}
 use Rattle.std.proofs.lemmas.List.{map-id}
 use Rattle.sigma_spl.specs.Views.{plain_factors, plain_nest}
 use Rattle.perm_algebra.specs.Views.{plain_sum}
-use Rattle.loop_nests.proofs.Places.Passes.{multiplied-from}
+use Rattle.loop_nests.proofs.PlaceLemmas.Passes.{multiplied-from}
 use Rattle.loop_nests.proofs.places.diagonals.multiplied_by_place.Goals as goal
 
 pub returns : goal.returns

@@ -1,7 +1,7 @@
 use Rattle.std.specs.Prelude.{[]}
 use Rattle.sigma_spl.specs.Views.{plain_factors, plain_nest}
 use Rattle.loop_nests.specs.Places.Multiplied.{nest_multiplied}
-use Rattle.loop_nests.proofs.Places.Sums.{mapped-more}
+use Rattle.loop_nests.proofs.PlaceLemmas.Sums.{mapped-more}
 use Rattle.loop_nests.proofs.places.diagonals.multiplied_in_order.Goals as goal
 
 pub loop-nest-preserved : goal.loop-nest-preserved

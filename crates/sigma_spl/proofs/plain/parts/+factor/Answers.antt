@@ -1,4 +1,4 @@
-use Rattle.sigma_spl.proofs.Plain.Rooms.{twiddle_residue}
+use Rattle.sigma_spl.proofs.PlainLemmas.Rooms.{twiddle_residue}
 use Rattle.sigma_spl.proofs.plain.parts.+factor.Goals as goal
 
 pub returns-in-Twiddles-clause-value : goal.returns-in-Twiddles-clause-value

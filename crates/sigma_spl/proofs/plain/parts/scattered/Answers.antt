@@ -4,7 +4,7 @@ use Rattle.std.proofs.lemmas.List.{get_or_read}
 use Rattle.index_fn.specs.Index.{mapping_of}
 use Rattle.index_fn.specs.Mapping.{at}
 use Rattle.sigma_spl.specs.Plain.Copies.{scatter_mod}
-use Rattle.sigma_spl.proofs.Plain.Stores.{none_stored, one_stored, stored_below, stored_long, all_stored}
+use Rattle.sigma_spl.proofs.PlainLemmas.Stores.{none_stored, one_stored, stored_below, stored_long, all_stored}
 use Rattle.spl_ast.proofs.Vectors.{residue_at}
 use Rattle.sigma_spl.proofs.plain.parts.scattered.Goals as goal
 

@@ -6,11 +6,11 @@ use Rattle.sigma_spl.proofs.Moved.{at-below}
 use Rattle.sigma_spl.specs.Views.{plain_term, plain_work}
 use Rattle.sigma_spl.specs.Plain.Copies.{copy_on, copy_size, part_on, part_size}
 use Rattle.sigma_spl.specs.Plain.Shape.{FitsCopy}
-use Rattle.sigma_spl.proofs.Plain.Copies.{copy_sized, nest_times, move_times, parts_joined}
-use Rattle.sigma_spl.proofs.Plain.Steps.{block_part, column_part, one_block, turned_size}
+use Rattle.sigma_spl.proofs.PlainLemmas.Copies.{copy_sized, nest_times, move_times, parts_joined}
+use Rattle.sigma_spl.proofs.PlainLemmas.Steps.{block_part, column_part, one_block, turned_size}
 use Rattle.spl_ast.specs.Meaning.{IsVector}
 use Rattle.spl_ast.proofs.Blocks.{columns_from_turns, turned_vector}
-use Rattle.operators.proofs.Paths.Under.{under-size}
+use Rattle.operators.proofs.PathLemmas.Under.{under-size}
 use Rattle.sigma_spl.proofs.plain.terms.+terms.Goals as goal
 
 pub in_blocks-loop-i-preserved : goal.in_blocks-loop-i-preserved

@@ -1,6 +1,6 @@
 use Rattle.std.proofs.Common.{rules}
 use Rattle.sigma_spl.specs.Views.{plain_term}
-use Rattle.sigma_spl.proofs.Plain.Vectors.{next_vector}
+use Rattle.sigma_spl.proofs.PlainLemmas.Vectors.{next_vector}
 use Rattle.sigma_spl.proofs.plain.terms.+terms_times.Goals as goal
 
 pub terms_times-requires : goal.terms_times-requires

@@ -6,9 +6,9 @@ use Rattle.tree_model.specs.Trees.{trees_on}
 use Rattle.tree_model.specs.Whole.{rooted_of}
 use Rattle.tree_model.specs.declared.tree.Tree.{Tree}
 use Rattle.tree_model.proofs.RootedTrees.{rooted_size}
-use Rattle.sigma_spl.proofs.Plain.Copies.{rooted_sized}
-use Rattle.sigma_spl.proofs.Plain.Steps.{one_block}
-use Rattle.sigma_spl.proofs.Plain.Vectors.{node_rows, node_columns}
+use Rattle.sigma_spl.proofs.PlainLemmas.Copies.{rooted_sized}
+use Rattle.sigma_spl.proofs.PlainLemmas.Steps.{one_block}
+use Rattle.sigma_spl.proofs.PlainLemmas.Vectors.{node_rows, node_columns}
 use Rattle.sigma_spl.proofs.plain.works.+node.Goals as goal
 
 pub on_rows-loop-i-preserved : goal.on_rows-loop-i-preserved

@@ -2,8 +2,8 @@ use Rattle.std.proofs.Common.{◌≡◌, ◌∙◌, ap, refl, arith}
 use Rattle.operators.specs.Operator.{on_blocks}
 use Rattle.sigma_spl.specs.Plain.Copies.{alone}
 use Rattle.tree_model.specs.Trees.{trees_on, trees_size}
-use Rattle.sigma_spl.proofs.Plain.Copies.{trees_sized}
-use Rattle.sigma_spl.proofs.Plain.Steps.{one_block}
+use Rattle.sigma_spl.proofs.PlainLemmas.Copies.{trees_sized}
+use Rattle.sigma_spl.proofs.PlainLemmas.Steps.{one_block}
 use Rattle.sigma_spl.proofs.plain.works.on_each_row.Goals as goal
 
 pub loop-i-preserved : goal.loop-i-preserved

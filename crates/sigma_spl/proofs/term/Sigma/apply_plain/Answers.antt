@@ -1,6 +1,6 @@
 use Rattle.std.proofs.Common.{ℕ, List, sym, subst}
 use Rattle.sigma_spl.specs.Views.{plain_sigma}
-use Rattle.sigma_spl.proofs.Plain.Vectors.{terms_vector}
+use Rattle.sigma_spl.proofs.PlainLemmas.Vectors.{terms_vector}
 use Rattle.spl_ast.specs.Meaning.{IsVector}
 use Rattle.sigma_spl.proofs.term.Sigma.apply_plain.Goals as goal
 

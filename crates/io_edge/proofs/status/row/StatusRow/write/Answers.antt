@@ -2,7 +2,7 @@ use Rattle.std.proofs.Common.{◌++◌, ◌∙◌, sym, codes}
 use Rattle.std.specs.List.{flat_map}
 use Rattle.std.proofs.lemmas.Result.{err_from_is_err_and}
 use Rattle.io_edge.proofs.TakenLemmas.{prefix_after, prefix_more, writes_after}
-use Rattle.io_edge.proofs.Status.Lines.{text_of, line_of-some}
+use Rattle.io_edge.proofs.StatusLemmas.Lines.{text_of, line_of-some}
 use Rattle.io_edge.proofs.status.row.StatusRow.write.Goals as goal
 
 pub returns-in_err-write_all-clause-bytes : goal.returns-in_err-write_all-clause-bytes

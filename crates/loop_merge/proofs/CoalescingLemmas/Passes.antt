@@ -5,7 +5,7 @@ use Rattle.std.proofs.lemmas.List.{map-append, length-map}
 use Rattle.std.proofs.lemmas.List.Elements.{All-nil, All-cons, All-head, All-tail}
 use Rattle.loop_merge.specs.Coalescing.Copies.{with_copies_coalesced, all_coalesced}
 use Rattle.loop_merge.specs.Coalescing.Laws.{CoalescedMean, CoalescedCost, CoalescedArePlain}
-use Rattle.loop_merge.proofs.Coalescing.Joining.{all-alike}
+use Rattle.loop_merge.proofs.CoalescingLemmas.Joining.{all-alike}
 use Rattle.operators.proofs.Lists.{list_below-same}
 use Rattle.sigma_spl.specs.Shared.Costs.{work_cost}
 use Rattle.sigma_spl.specs.Shared.Machine.{plain_machine}

@@ -43,7 +43,7 @@ use Rattle.commands.specs.Equations.Works.{Wants, a_first, the_first, by_first, 
 use Rattle.commands.specs.Input.Outcomes.{Outcomes, Meets, SourceMeets}
 use Rattle.commands.specs.Input.Refusals.{IsRefusal}
 use Rattle.commands.specs.Input.Stage.{◌>>=◌}
-use Rattle.commands.proofs.Documents.{with_tree}
+use Rattle.commands.proofs.DocumentLemmas.{with_tree}
 use Rattle.io_edge.proofs.ToldLemmas.{over_left}
 use Rattle.commands.proofs.Inputs.DataLemmas.{fine_by, reads_vectors, lines_equal, run_answers, run_meets}
 use Rattle.commands.proofs.Inputs.DataLemmas.{turns_below}

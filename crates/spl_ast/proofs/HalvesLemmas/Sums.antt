@@ -8,7 +8,7 @@ use Rattle.spl_ast.specs.Shape.{IsShaped}
 use Rattle.spl_ast.proofs.Contexts.{same_left, same_right, same_product, same_sum, same_refl, same_trans, is_size_of}
 use Rattle.spl_ast.proofs.Vectors.{shaped_size}
 use Rattle.spl_ast.specs.Halves.Summands.{summands, sum_of}
-use Rattle.spl_ast.proofs.Halves.Grouping.{KnowsSums, from_right}
+use Rattle.spl_ast.proofs.HalvesLemmas.Grouping.{KnowsSums, from_right}
 
 -- ---- numbers
 

@@ -22,7 +22,7 @@ use Rattle.loop_nests.specs.Places.Sums.{all_limits, are_limited, carried_by}
 use Rattle.loop_nests.specs.Places.Views.{multiplied_by}
 use Rattle.loop_nests.specs.declared.places.access.Access.{Access}
 use Rattle.loop_nests.specs.declared.places.access.Access.TheVariants.{Loads, Stores}
-use Rattle.loop_nests.proofs.Places.Sums.{all-at}
+use Rattle.loop_nests.proofs.PlaceLemmas.Sums.{all-at}
 
 -- ---- one nest
 

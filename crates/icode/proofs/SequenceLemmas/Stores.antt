@@ -9,11 +9,11 @@ use Rattle.icode.specs.Machine.{Local, effect, effects, register_of, words_at}
 use Rattle.icode.proofs.Words.{length-words_at}
 use Rattle.icode.specs.Sequences.Lanes.{Registers, lane_of, with_register}
 use Rattle.icode.specs.Sequences.Nests.{loads}
-use Rattle.icode.proofs.Sequences.ByLane.{put_register, lane_word, this_register, other_register, length-registers_after}
-use Rattle.icode.proofs.Sequences.ByLane.{lists_follow}
-use Rattle.icode.proofs.Sequences.Fills.{word, Fills}
-use Rattle.icode.proofs.Sequences.Placing.{slice_index-words_at, with_words_there, with_words_elsewhere}
-use Rattle.icode.proofs.Sequences.Placing.{length-with_words}
+use Rattle.icode.proofs.SequenceLemmas.ByLane.{put_register, lane_word, this_register, other_register, length-registers_after}
+use Rattle.icode.proofs.SequenceLemmas.ByLane.{lists_follow}
+use Rattle.icode.proofs.SequenceLemmas.Fills.{word, Fills}
+use Rattle.icode.proofs.SequenceLemmas.Placing.{slice_index-words_at, with_words_there, with_words_elsewhere}
+use Rattle.icode.proofs.SequenceLemmas.Placing.{length-with_words}
 
 -- a load puts a word of the memory into each lane of its register
 pub load_by_lane : (m lanes regs : ℕ) (r address : ℕ) (s : Local) (lane : ℕ) → r < regs →

@@ -6,7 +6,7 @@ use Rattle.smp_rewrite.specs.Layout.Step.{PlainStep, step, thomas_out, twiddles,
 use Rattle.smp_rewrite.specs.Layout.Step.{operations_in}
 use Rattle.operators.specs.Paths.Tensors.{Path, copies_of}
 use Rattle.operators.specs.declared.paths.Tensor.TheVariants.{Blocks, Columns}
-use Rattle.operators.proofs.Paths.Under.{copies_of-push}
+use Rattle.operators.proofs.PathLemmas.Under.{copies_of-push}
 use Rattle.tree_model.specs.declared.tree.Rule.{Rule}
 use Rattle.tree_model.specs.declared.tree.Rule.TheVariants.{Gt, Ct, Split, Dim}
 

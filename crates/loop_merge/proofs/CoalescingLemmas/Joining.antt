@@ -4,10 +4,10 @@ use Rattle.std.proofs.Common.{None}
 use Rattle.std.proofs.lemmas.List.Elements.{All-cons, All-head, All-tail}
 use Rattle.loop_merge.specs.Coalescing.Copies.{PlainRun, run_of, together, copying_run, before, put_first}
 use Rattle.loop_merge.specs.Coalescing.Copies.{with_copies_coalesced}
-use Rattle.loop_merge.proofs.Coalescing.Alike.{AreAlike, same, then, behind}
-use Rattle.loop_merge.proofs.Coalescing.Loops.{copies_from, AreCounted, word_at, hit_at, loop-stored, loop-hits}
-use Rattle.loop_merge.proofs.Coalescing.Loops.{counted, words-below, loop-plain}
-use Rattle.loop_merge.proofs.Coalescing.Words.{IsRun, run-is, together-are}
+use Rattle.loop_merge.proofs.CoalescingLemmas.Alike.{AreAlike, same, then, behind}
+use Rattle.loop_merge.proofs.CoalescingLemmas.Loops.{copies_from, AreCounted, word_at, hit_at, loop-stored, loop-hits}
+use Rattle.loop_merge.proofs.CoalescingLemmas.Loops.{counted, words-below, loop-plain}
+use Rattle.loop_merge.proofs.CoalescingLemmas.Words.{IsRun, run-is, together-are}
 use Rattle.operators.specs.Sum.{sum_below}
 use Rattle.operators.proofs.Sums.{sum_below-same, sum_below-append}
 use Rattle.sigma_spl.specs.Copies.{hits, stored}

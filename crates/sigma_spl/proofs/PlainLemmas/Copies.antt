@@ -22,13 +22,13 @@ use Rattle.sigma_spl.proofs.Moved.{at-below}
 use Rattle.sigma_spl.proofs.Natural.{at-natural}
 use Rattle.sigma_spl.specs.Plain.Copies.{copy_size, copy_on}
 use Rattle.sigma_spl.specs.Plain.Shape.{Fits}
-use Rattle.sigma_spl.proofs.Plain.Vectors.{Keeps, reduced, under_keeps, trees_keep, term_vector}
+use Rattle.sigma_spl.proofs.PlainLemmas.Vectors.{Keeps, reduced, under_keeps, trees_keep, term_vector}
 use Rattle.tree_model.specs.Trees.{PlainTrees, single, tensor, trees_size, trees_on}
 use Rattle.spl_ast.specs.Meaning.{IsVector}
 use Rattle.spl_ast.proofs.Vectors.{residue_at, list_vector, take_vector, drop_vector}
 use Rattle.operators.specs.Paths.Loop.{loop_at}
 use Rattle.operators.specs.Paths.Tensors.{Path, count_of, size_under, under, place, local, AreInRange, Reads}
-use Rattle.operators.proofs.Paths.PathPlaces.{at-under}
+use Rattle.operators.proofs.PathLemmas.PathPlaces.{at-under}
 use Rattle.tree_model.specs.Breakdown.{Breakdown, size_of}
 use Rattle.tree_model.specs.Whole.{rooted_of}
 use Rattle.tree_model.proofs.RootedTrees.{rooted_size}

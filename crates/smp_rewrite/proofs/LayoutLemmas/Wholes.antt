@@ -18,7 +18,7 @@ use Rattle.kernel_gen.specs.Nodes.{IsNodeTree}
 use Rattle.smp_rewrite.specs.Layout.Meaning.{FitsWhole}
 use Rattle.smp_rewrite.specs.Layout.Whole.{closed_on, closing_cost, factor_by, IsGoodFactor, WholesDo, WholesCost}
 use Rattle.smp_rewrite.specs.Layout.Whole.{WholesAreGood}
-use Rattle.smp_rewrite.proofs.Layout.Layouts.{layouts_have_size, layouts_do, layouts_cost, layouts_are_good}
+use Rattle.smp_rewrite.proofs.LayoutLemmas.Layouts.{layouts_have_size, layouts_do, layouts_cost, layouts_are_good}
 use Rattle.tree_model.specs.Breakdown.{Breakdown, size_of}
 use Rattle.tree_model.specs.Chosen.{IsWholeTree, closing_by}
 use Rattle.tree_model.proofs.NodesAsked.{nodes_do_what_is_asked}

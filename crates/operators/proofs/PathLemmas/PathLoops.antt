@@ -12,7 +12,7 @@ use Rattle.operators.proofs.Scatters.{sum_below-only, hit, miss}
 use Rattle.operators.specs.declared.paths.Tensor.TheVariants.{Blocks, Columns}
 use Rattle.operators.specs.Paths.Tensors.{Path, count_of, size_under, under, place, AreInRange}
 use Rattle.operators.specs.Paths.Loop.{nest_sum, loop_at, loop_on, IsOneToOne, LoopIsUnder}
-use Rattle.operators.proofs.Paths.PathPlaces.{place-below, at-under}
+use Rattle.operators.proofs.PathLemmas.PathPlaces.{place-below, at-under}
 
 pub sum_below-zero : (n : ℕ) (f : ℕ → ℕ) → ((i : ℕ) → i < n → f i ≡ 0) → sum_below n f ≡ 0
 sum_below-zero zero f h = refl

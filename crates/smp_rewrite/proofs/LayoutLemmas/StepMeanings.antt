@@ -9,7 +9,7 @@ use Rattle.smp_rewrite.specs.Layout.Meaning.{step_on, all_on, StepsDo}
 use Rattle.smp_rewrite.specs.Layout.Step.{PlainStep, step, rule_steps, steps_of, twiddles, thomas_out}
 use Rattle.operators.specs.Paths.Tensors.{Path, under}
 use Rattle.operators.specs.declared.paths.Tensor.TheVariants.{Blocks, Columns}
-use Rattle.operators.proofs.Paths.Under.{under-push, under-product}
+use Rattle.operators.proofs.PathLemmas.Under.{under-push, under-product}
 use Rattle.tree_model.specs.declared.tree.Rule.{Rule}
 use Rattle.tree_model.specs.declared.tree.Rule.TheVariants.{Gt, Ct, Split, Dim}
 

@@ -32,7 +32,7 @@ use Rattle.smp_rewrite.specs.Layout.Meaning.{FitsWhole, LayoutsHaveSize, Layouts
 use Rattle.kernel_gen.proofs.NodeTrees.{left_tree, right_tree, left_fields, right_fields, left_less, times_size}
 use Rattle.kernel_gen.proofs.NodeTrees.{size-le}
 use Rattle.kernel_gen.proofs.RootedNodes.{rooted_on, rooted_cost, rooted_made, flat_node}
-use Rattle.smp_rewrite.proofs.Layout.NodeTrees.{left_fits, right_fits, node_kind, node_stands}
+use Rattle.smp_rewrite.proofs.LayoutLemmas.NodeTrees.{left_fits, right_fits, node_kind, node_stands}
 use Rattle.tree_model.proofs.RootedTrees.{rooted_size}
 use Rattle.tree_model.specs.Breakdown.{Breakdown, leaf, node, size_of, AllowsLeaf, AllowsRule, IsWellFormed}
 use Rattle.tree_model.specs.Cost.{is_kernel, is_plain, node_root, products_cost}

@@ -20,7 +20,7 @@ use Rattle.commands.specs.Input.Commands.{admitted, first_stranger}
 use Rattle.commands.specs.Equations.Convolutions.{conv_spelt, conv_chosen, conv_planned}
 use Rattle.commands.specs.Equations.Orders.{turned}
 use Rattle.commands.specs.Input.Stage.{◌>>=◌}
-use Rattle.commands.proofs.Documents.{with_tree}
+use Rattle.commands.proofs.DocumentLemmas.{with_tree}
 use Rattle.commands.proofs.Inputs.Stages.{IsDecided, done, ended, given_decided, bind_decided}
 
 -- The line

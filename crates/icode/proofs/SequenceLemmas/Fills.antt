@@ -6,7 +6,7 @@ use Rattle.std.proofs.lemmas.Bool.{cases_eq}
 use Rattle.icode.specs.declared.action.Action.{Action}
 use Rattle.icode.specs.Machine.{Local, effects}
 use Rattle.icode.specs.Sequences.Nests.{bodies, nest, AreInRange}
-use Rattle.icode.proofs.Sequences.ByLane.{lists_follow}
+use Rattle.icode.proofs.SequenceLemmas.ByLane.{lists_follow}
 
 -- a word of the memory
 abbrev pub word : Local → ℕ → ℕ

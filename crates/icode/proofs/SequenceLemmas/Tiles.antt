@@ -9,8 +9,8 @@ use Rattle.std.proofs.lemmas.List.FromFn.{get_or-map-range_with_len, length-map-
 use Rattle.icode.specs.declared.action.Action.TheVariants.{Tile}
 use Rattle.icode.specs.Machine.{Local, effect, transposed}
 use Rattle.icode.specs.Sequences.Lanes.{lane_of}
-use Rattle.icode.proofs.Sequences.Placing.{with_words_there, with_words_elsewhere}
-use Rattle.icode.proofs.Sequences.Statements.{range-last}
+use Rattle.icode.proofs.SequenceLemmas.Placing.{with_words_there, with_words_elsewhere}
+use Rattle.icode.proofs.SequenceLemmas.Statements.{range-last}
 
 pub slice_index-front : (xs ys : List ℕ) (i : ℕ) → i < length xs → slice_index (xs ++ ys) i ≡ slice_index xs i
 slice_index-front [] ys i below = absurd (omega arith)

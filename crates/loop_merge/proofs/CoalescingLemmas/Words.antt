@@ -4,7 +4,7 @@ use Rattle.std.proofs.Common.{Option, Some, None}
 use Rattle.std.specs.Prelude.{◌==◌, ◌&&◌, nat_lt, Bool, if◌then◌else◌}
 use Rattle.std.proofs.lemmas.Bool.Decides.{nat_tests}
 use Rattle.loop_merge.specs.Coalescing.Copies.{PlainRun, words_at, same_words, is_word, run_of, together}
-use Rattle.loop_merge.proofs.Coalescing.Loops.{places_from, copies_from, AreCounted}
+use Rattle.loop_merge.proofs.CoalescingLemmas.Loops.{places_from, copies_from, AreCounted}
 use Rattle.sigma_spl.specs.Merge.{is_free}
 use Rattle.sigma_spl.specs.Nest.{PlainMultiplier, PlainNest}
 use Rattle.sigma_spl.specs.Work.{PlainWork, kernel, rows, horner, tile, copy}

@@ -2,9 +2,9 @@
 use Rattle.std.proofs.Common.{◌≡◌, ℕ, ◌*◌, ◌<◌, ◌≤◌, ap, ◌∙◌, List, map}
 use Rattle.std.proofs.lemmas.List.FromFn.{fill_by_all}
 use Rattle.icode.specs.Sequences.Lanes.{Registers, lane_of}
-use Rattle.icode.proofs.Sequences.ByLane.{arithmetic_is_by_lane, weighted_is_by_lane}
+use Rattle.icode.proofs.SequenceLemmas.ByLane.{arithmetic_is_by_lane, weighted_is_by_lane}
 use Rattle.icode.specs.Machine.{counts_of, weighted}
-use Rattle.icode.proofs.Sequences.Placing.{slice_index-map, length-mapped}
+use Rattle.icode.proofs.SequenceLemmas.Placing.{slice_index-map, length-mapped}
 use Rattle.matrix_meaning.specs.declared.Kind.{Kind}
 use Rattle.matrix_meaning.specs.declared.Kind.TheVariants.{Dft, Wht, Idft}
 use Rattle.matrix_meaning.specs.Kind.{transform}

@@ -17,9 +17,9 @@ use Rattle.icode.specs.Sequences.Lanes.{Registers, lane_of, with_register, lane_
 use Rattle.icode.specs.Sequences.Lanes.{operations, weighted_of, weighted_operations}
 use Rattle.icode.specs.Sequences.Laws.{ArithmeticIsByLane, ListsFollow, MulsAreByLane, OperationsAreByLane}
 use Rattle.icode.specs.Sequences.Laws.{WeightedIsByLane}
-use Rattle.icode.proofs.Sequences.Placing.{slice_index-words_at, slice_index-lane_by_lane, length-lane_by_lane}
-use Rattle.icode.proofs.Sequences.Placing.{slice_index-map, length-mapped, slice_index-replicate, length-with_words}
-use Rattle.icode.proofs.Sequences.Placing.{with_words_there, with_words_elsewhere}
+use Rattle.icode.proofs.SequenceLemmas.Placing.{slice_index-words_at, slice_index-lane_by_lane, length-lane_by_lane}
+use Rattle.icode.proofs.SequenceLemmas.Placing.{slice_index-map, length-mapped, slice_index-replicate, length-with_words}
+use Rattle.icode.proofs.SequenceLemmas.Placing.{with_words_there, with_words_elsewhere}
 
 pub this_register : (g : Registers) (r v : ℕ) → with_register g r v r ≡ v
 this_register g r v = grind (arith, nat_tests)
