@@ -1,22 +1,23 @@
 -- With store buffers, too, runs among leftovers end as one processor after another does.
-use Rattle.std.proofs.Common.{◌≡◌, ℕ, ◌-◌, ◌<◌, ◌≤◌, ◌++◌, List, [], ◌∷◌, Bool, true, false, cond, length, Option}
-use Rattle.std.proofs.Common.{Some, None, refl, sym, ap, ◌∙◌, subst, arith, ⊎_elim}
+use Rattle.std.proofs.Common.{◌≡◌, ℕ, zero, suc, ◌-◌, ◌<◌, ◌≤◌, ◌++◌, List, [], ◌∷◌, Bool, true, false, cond, length}
+use Rattle.std.proofs.Common.{Option, Some, None, refl, sym, ap, ◌∙◌, subst, arith, ⊎_elim}
 use Rattle.std.specs.Prelude.{slice_index}
-use Rattle.std.proofs.lemmas.Bool.{cases_eq}
+use Rattle.std.proofs.lemmas.Bool.{cases_eq, cases_lt}
 use Rattle.std.proofs.lemmas.List.{length-replicate}
 use Rattle.icode.specs.declared.action.Action.{Action}
 use Rattle.icode.specs.declared.event.Event.{Event}
 use Rattle.icode.specs.declared.event.Event.TheVariants.{Turn, Drain}
 use Rattle.icode.specs.Buffers.{Waiting, Buffered, queue_of, some_wait, none_waiting, buffered_moved_on}
-use Rattle.icode.specs.Buffers.{buffered_acted}
+use Rattle.icode.specs.Buffers.{buffered_acted, buffered_completion}
 use Rattle.icode.specs.Buffers.{buffered_step, buffered_turn_with, written, drain_with, IsBusy}
 use Rattle.icode.specs.BuffersAmong.{buffered_step_among, buffered_run_among, buffered_among, HasEnded}
-use Rattle.icode.specs.BuffersAmong.{BuffersAmongInOrder, FreshBuffersIgnoreLeftovers}
+use Rattle.icode.specs.BuffersAmong.{BuffersAmongEnd, BuffersAmongInOrder, FreshBuffersIgnoreLeftovers}
 use Rattle.icode.specs.Leftovers.{Leftovers, phases_among, start_among, with_files}
 use Rattle.icode.specs.Machine.{Code, IsCode, IsApart, State, moved_on, next_action, padded, words_at}
 use Rattle.icode.proofs.Buffered.{IsBuffered, IsBuffered-acted, IsBuffered-drained, followed_from_buffered}
 use Rattle.icode.proofs.Buffered.{buffered_from_followed}
-use Rattle.icode.proofs.BufferedCompletion.{busy_step, starts_busy, waits_within, none_waiting-none}
+use Rattle.icode.proofs.BufferedCompletion.{busy_step, completion_past, next_event, none_waiting-none, starts_busy}
+use Rattle.icode.proofs.BufferedCompletion.{waits_within}
 use Rattle.icode.proofs.FreshCodes.{fresh_ignores_leftovers}
 use Rattle.icode.proofs.Leftovers.{IsOnTheWay, at_end, filled_past, filled_same, memory_of_runs_among}
 use Rattle.icode.proofs.Leftovers.{moved_on_the_way}
@@ -26,6 +27,97 @@ use Rattle.icode.proofs.Waiting.{queue_inside}
 
 abbrev with_queues : State → List (List Waiting) → Buffered
 with_queues s queues = record { state = s; queues = queues }
+
+module _ (code : Code) (is : IsCode code) (left : Leftovers) where
+  -- registers that are left over change no queue
+  busy_among : (phase : ℕ) (b : Buffered) → IsBusy code b → IsBusy code
+      (with_queues (with_files left phase b.state) b.queues)
+  busy_among phase b busy =
+      ⊎_elim
+      (λ (same : phase ≡ b.state.phase).
+      subst (λ (s : State). IsBusy code (with_queues s b.queues))
+      (sym (filled_same code is left phase b.state same)) busy)
+      (λ (other : phase ≡ b.state.phase → ⊥).
+      subst (λ (s : State). IsBusy code (with_queues s b.queues)) (sym (filled_past code is left phase b.state other))
+      (record { dones = busy.dones; lines = busy.lines; within = busy.within; opens = busy.opens; past = busy.past }))
+      (cases_eq phase b.state.phase)
+
+  starts_busy_among : (x : List ℕ) → IsBusy code (with_queues (start_among code left x) (none_waiting code))
+  starts_busy_among x =
+      let begun = starts_busy code is x in
+      record {
+        dones = begun.dones;
+        lines = begun.lines;
+        within = begun.within;
+        opens = begun.opens;
+        past = begun.past;
+      }
+
+  step_busy : (b : Buffered) (e : Event) → IsBusy code b → IsBusy code (buffered_step_among code left b e)
+  step_busy b e busy = busy_among b.state.phase (buffered_step code b e) (busy_step code is b e busy)
+
+  run_busy : (events : List Event) (b : Buffered) → IsBusy code b → IsBusy code (buffered_run_among code left b events)
+  run_busy [] b busy = busy
+  run_busy (e ∷ events) b busy = run_busy events (buffered_step_among code left b e) (step_busy b e busy)
+
+  -- ---- the completion
+
+  -- nor do they change the completion
+  completion_among : (phase : ℕ) (b : Buffered) →
+      buffered_completion code (with_queues (with_files left phase b.state) b.queues) ≡ buffered_completion code b
+  completion_among phase b =
+      ⊎_elim
+      (λ (same : phase ≡ b.state.phase).
+      ap (λ (s : State). buffered_completion code (with_queues s b.queues))
+      (filled_same code is left phase b.state same))
+      (λ (other : phase ≡ b.state.phase → ⊥).
+      ap (λ (s : State). buffered_completion code (with_queues s b.queues))
+      (filled_past code is left phase b.state other))
+      (cases_eq phase b.state.phase)
+
+  past_ends : (b : Buffered) → IsBusy code b → length code.lists ≤ b.state.phase →
+      HasEnded code (buffered_run_among code left b (buffered_completion code b))
+  past_ends b busy ge =
+      subst (λ (events : List Event). HasEnded code (buffered_run_among code left b events))
+      (sym (completion_past code is b busy ge)) ge
+
+  ends_among : (n : ℕ) (b : Buffered) → length (buffered_completion code b) ≡ n → IsBusy code b →
+      HasEnded code (buffered_run_among code left b (buffered_completion code b))
+  ends_among zero b size busy =
+      ⊎_elim
+      (λ (lt : b.state.phase < length code.lists).
+      let next = next_event code is b busy lt in absurd (omega (arith, size, ap length next.1)))
+      (past_ends b busy)
+      (cases_lt b.state.phase (length code.lists))
+  ends_among (suc n) b size busy =
+      ⊎_elim
+      (λ (lt : b.state.phase < length code.lists).
+      let next = next_event code is b busy lt in
+      let first : buffered_completion code b
+      ≡ next.0 ∷ buffered_completion code (buffered_step_among code left b next.0) =
+      next.1
+      ∙ ap (λ (events : List Event). next.0 ∷ events)
+      (sym (completion_among b.state.phase (buffered_step code b next.0))) in
+      subst (λ (events : List Event). HasEnded code (buffered_run_among code left b events)) (sym first)
+      (ends_among n (buffered_step_among code left b next.0) (omega (arith, size, ap length first))
+      (step_busy b next.0 busy)))
+      (past_ends b busy)
+      (cases_lt b.state.phase (length code.lists))
+
+run_append : (code : Code) (left : Leftovers) (b : Buffered) (first more : List Event) →
+    buffered_run_among code left b (first ++ more)
+    ≡ buffered_run_among code left (buffered_run_among code left b first) more
+run_append code left b [] more = refl
+run_append code left b (e ∷ first) more = run_append code left (buffered_step_among code left b e) first more
+
+pub buffers_among_end : BuffersAmongEnd
+buffers_among_end code left is x events =
+    let begun : Buffered = with_queues (start_among code left x) (none_waiting code) in
+    let b : Buffered = buffered_among code left x events in
+    subst (λ (last : Buffered). HasEnded code last)
+    (sym (run_append code left begun events (buffered_completion code b)))
+    (ends_among code is left (length (buffered_completion code b)) b refl
+    (run_busy code is left events begun (starts_busy_among code is left x)))
 
 module _ (code : Code) (is : IsCode code) (apart : (phase : ℕ) → IsApart code phase) (left : Leftovers)
     (files : (phase : ℕ) → length (left.files phase) ≡ code.procs) where
@@ -117,19 +209,6 @@ module _ (code : Code) (is : IsCode code) (apart : (phase : ℕ) → IsApart cod
                 (omega (arith, queue_inside b.queues q w queue e, g.follows.lines)) e g.follows;
           })
 
-  -- registers that are left over change no queue
-  busy_among : (phase : ℕ) (b : Buffered) → IsBusy code b → IsBusy code
-      (with_queues (with_files left phase b.state) b.queues)
-  busy_among phase b busy =
-      ⊎_elim
-      (λ (same : phase ≡ b.state.phase).
-      subst (λ (s : State). IsBusy code (with_queues s b.queues))
-      (sym (filled_same code is left phase b.state same)) busy)
-      (λ (other : phase ≡ b.state.phase → ⊥).
-      subst (λ (s : State). IsBusy code (with_queues s b.queues)) (sym (filled_past code is left phase b.state other))
-      (record { dones = busy.dones; lines = busy.lines; within = busy.within; opens = busy.opens; past = busy.past }))
-      (cases_eq phase b.state.phase)
-
   record IsGoingOn (result : List ℕ) (b : Buffered) : Type 0 where
     busy : IsBusy code b
     coming : IsComing result b
@@ -138,7 +217,7 @@ module _ (code : Code) (is : IsCode code) (apart : (phase : ℕ) → IsApart cod
       IsGoingOn result (buffered_step_among code left b e)
   step_goes_on result b e g =
       record {
-        busy = busy_among b.state.phase (buffered_step code b e) (busy_step code is b e g.busy);
+        busy = step_busy code is left b e g.busy;
         coming = by e;
       }
     where
@@ -156,16 +235,8 @@ module _ (code : Code) (is : IsCode code) (apart : (phase : ℕ) → IsApart cod
       IsGoingOn (phases_among code left (length code.lists) 0 (x ++ left.words))
       (with_queues (start_among code left x) (none_waiting code))
   starts_going x =
-      let begun = starts_busy code is x in
       record {
-        busy = record {
-          dones = begun.dones;
-          lines = begun.lines;
-          within = begun.within;
-          opens = begun.opens;
-          past =
-              begun.past;
-        };
+        busy = starts_busy_among code is left x;
         coming = coming (phases_among code left (length code.lists) 0 (x ++ left.words))
             (with_queues (start_among code left x) (none_waiting code))
             (none_waiting-none code is) (length-replicate code.procs [])

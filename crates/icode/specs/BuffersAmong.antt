@@ -1,6 +1,6 @@
 -- Runs with store buffers where others have run before.
 use Rattle.std.specs.Prelude.{◌≡◌, ℕ, ◌≤◌, ◌++◌, List, [], ◌∷◌, length}
-use Rattle.icode.specs.Buffers.{Buffered, buffered_step, none_waiting}
+use Rattle.icode.specs.Buffers.{Buffered, buffered_completion, buffered_step, none_waiting}
 use Rattle.icode.specs.declared.event.Event.{Event}
 use Rattle.icode.specs.Fresh.{HaveFactors, IsFresh}
 use Rattle.icode.specs.Leftovers.{AreLeftovers, Leftovers, phases_among, start_among, with_files}
@@ -26,6 +26,13 @@ abbrev pub HasEnded : Code → Buffered → Type 0
 HasEnded code b = length code.lists ≤ b.state.phase
 
 -- The laws
+
+-- whatever turns and drains came before, the completion of where they lead brings the run past all phases
+abbrev pub BuffersAmongEnd : Type 0
+BuffersAmongEnd =
+    (code : Code) (left : Leftovers) → IsCode code → (x : List ℕ) (events : List Event) →
+    let completed = events ++ buffered_completion code (buffered_among code left x events) in
+    HasEnded code (buffered_among code left x completed)
 
 -- whatever turns and drains end a run, the memory is what one processor after another leaves
 abbrev pub BuffersAmongInOrder : Type 0
