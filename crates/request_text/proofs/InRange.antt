@@ -1,5 +1,5 @@
 -- A request in range passes the tests.
-use Rattle.std.proofs.Common.{◌≡◌, ℕ, suc, ◌*◌, ◌-◌, ◌^◌, ◌<◌, ◌≤◌, ◌%◌, Bool, true, false, cond, eqb, leb, List, []}
+use Rattle.std.proofs.Common.{◌≡◌, ℕ, suc, ◌*◌, ◌<◌, ◌≤◌, ◌%◌, Bool, true, false, cond, eqb, leb, List, []}
 use Rattle.std.proofs.Common.{◌∷◌, Result, Ok, Err, refl, sym, ap, subst, arith}
 use Rattle.std.specs.Prelude.{All}
 use Rattle.std.specs.Int.{IsGcd}
@@ -21,7 +21,9 @@ use Rattle.request_text.specs.declared.fault.Field.TheVariants.{Size, Mod, Root,
 use Rattle.request_text.specs.declared.fault.Field.TheVariants.{Weight}
 use Rattle.request_text.specs.declared.fault.RequestFault.{RequestFault}
 use Rattle.request_text.specs.declared.fault.RequestFault.TheVariants.{Range, Shape, LanesLine, NotUnit}
-use Rattle.request_text.specs.Limits.{◌>>◌, within, below, sizes_within, products_within, sized, roots_below, shaped}
+use Rattle.request_text.specs.Laws.{RangeIsTable, value_of}
+use Rattle.request_text.specs.Limits.{◌>>◌, limits, between, within, below, sizes_within, products_within, sized}
+use Rattle.request_text.specs.Limits.{roots_below, shaped}
 use Rattle.request_text.specs.Limits.{divided, coprime, divisible, limited, tested, judged, judged_conv}
 use Rattle.request_text.proofs.CommonFactor.{common_factor_is}
 use Rattle.request_text.proofs.Limits.{passed}
@@ -29,9 +31,12 @@ use Rattle.request_text.proofs.Said.{roots_in, sizes_in}
 
 -- ---- one test
 
-within_ok : (field : Field) (v low high : ℕ) → IsBetween low high v → within field v low high ≡ passed
-within_ok field v low high h = ap (λ b. cond b passed (Err (Range field v)))
+between_ok : (field : Field) (v low high : ℕ) → IsBetween low high v → between field v low high ≡ passed
+between_ok field v low high h = ap (λ b. cond b passed (Err (Range field v)))
     (and_from (leb low v) (leb v high) (le-leb low v h.0) (le-leb v high h.1))
+
+within_ok : (field : Field) (v : ℕ) → IsBetween (limits field).0 (limits field).1 v → within field v ≡ passed
+within_ok field v h = between_ok field v (limits field).0 (limits field).1 h
 
 below_ok : (field : Field) (v limit : ℕ) → v < limit → below field v limit ≡ passed
 below_ok field v limit h = ap (λ b. cond b passed (Err (Range field v))) (lt-ltb v limit h)
@@ -78,7 +83,7 @@ IsSize n = IsBetween 2 max_size n
 sizes_ok : (ds : List Dimension) → All IsSize (sizes_in ds) → sizes_within ds ≡ passed
 sizes_ok [] all = refl
 sizes_ok (d ∷ ds) all =
-    then_ok _ _ tt tt (within_ok Size d.size 2 max_size (first_of IsSize d.size (sizes_in ds) all))
+    then_ok _ _ tt tt (between_ok Size d.size 2 max_size (first_of IsSize d.size (sizes_in ds) all))
     (sizes_ok ds (others_of IsSize d.size (sizes_in ds) all))
 
 sizes_positive : (d : Dimension) (ds : List Dimension) → All IsSize (sizes_in (d ∷ ds))
@@ -95,7 +100,7 @@ products_ok : (before : ℕ) (d : Dimension) (ds : List Dimension) → 1 ≤ bef
     → (n : ℕ) × (products_within before (d ∷ ds) ≡ Ok n)
 products_ok before d [] some all fits =
     let low : 2 ≤ before * d.size = mul-le 1 2 before d.size some (first_of IsSize d.size [] all).0 in
-    (before * d.size, then_ok _ _ tt (before * d.size) (within_ok Size (before * d.size) 2 max_size (low, fits)) refl)
+    (before * d.size, then_ok _ _ tt (before * d.size) (between_ok Size (before * d.size) 2 max_size (low, fits)) refl)
 products_ok before d (f ∷ ds) some all fits =
     let others = others_of IsSize d.size (sizes_in (f ∷ ds)) all in
     let low : 2 ≤ before * d.size = mul-le 1 2 before d.size some (first_of IsSize d.size (sizes_in (f ∷ ds)) all).0 in
@@ -105,7 +110,7 @@ products_ok before d (f ∷ ds) some all fits =
     le-mul_of_pos_right (before * d.size) (sizes_positive f ds others) in
     let rest = products_ok (before * d.size) f ds (omega (arith, low)) others whole in (
       rest.0,
-      then_ok _ _ tt rest.0 (within_ok Size (before * d.size) 2 max_size (low, omega (arith, part, whole)))
+      then_ok _ _ tt rest.0 (between_ok Size (before * d.size) 2 max_size (low, omega (arith, part, whole)))
           rest.1,
     )
 
@@ -135,7 +140,7 @@ product_fits r ds e fits s = subst (λ x. product_of (sizes_in (dims_by r.size r
 
 sized_ok : (r : Request) (ds : Dimensions) → r.dimensions ≡ ds → IsBetween 1 max_size r.size → AreDimensions r ds
     → (n : ℕ) × (sized (dims_by r.size r.root ds) ≡ Ok n)
-sized_ok r One e size s = (r.size, then_ok _ _ tt r.size (within_ok Size r.size 1 max_size size) refl)
+sized_ok r One e size s = (r.size, then_ok _ _ tt r.size (within_ok Size r.size size) refl)
 sized_ok r (Two a b) e size s =
     several_ok a b [] (sizes_of_several r (Two a b) e s) (product_fits r (Two a b) e size.1 s)
 sized_ok r (Three a b c) e size s =
@@ -159,14 +164,14 @@ all_roots_ok r (Four a b c d) e root s = roots_of_several r (Four a b c d) e s
 limited_ok : (r : Request) → IsInRange r → limited r ≡ passed
 unfolding limited
 limited_ok r v =
-    then_ok (within Mod r.modulus 2 (2 ^ 62 - 1)) _ tt tt (within_ok Mod r.modulus 2 (2 ^ 62 - 1) v.modulus)
+    then_ok (within Mod r.modulus) _ tt tt (within_ok Mod r.modulus v.modulus)
     (then_ok (roots_below r.modulus (dims_of r)) _ tt tt (all_roots_ok r r.dimensions refl v.root v.dimensions)
-    (then_ok (within Procs r.procs 1 16) _ tt tt (within_ok Procs r.procs 1 16 v.procs)
-    (then_ok (within Line r.line 1 64) _ tt tt (within_ok Line r.line 1 64 v.line)
-    (then_ok (within Lanes r.lanes 1 16) _ tt tt (within_ok Lanes r.lanes 1 16 v.lanes)
-    (then_ok (within Unroll r.unroll 2 64) _ tt tt (within_ok Unroll r.unroll 2 64 v.unroll)
-    (then_ok (within Budget r.budget 1 1000000000000) _ tt tt (within_ok Budget r.budget 1 1000000000000 v.budget)
-    (then_ok (within Weight r.weight 1 1000) _ tt tt (within_ok Weight r.weight 1 1000 v.weight)
+    (then_ok (within Procs r.procs) _ tt tt (within_ok Procs r.procs v.procs)
+    (then_ok (within Line r.line) _ tt tt (within_ok Line r.line v.line)
+    (then_ok (within Lanes r.lanes) _ tt tt (within_ok Lanes r.lanes v.lanes)
+    (then_ok (within Unroll r.unroll) _ tt tt (within_ok Unroll r.unroll v.unroll)
+    (then_ok (within Budget r.budget) _ tt tt (within_ok Budget r.budget v.budget)
+    (then_ok (within Weight r.weight) _ tt tt (within_ok Weight r.weight v.weight)
     (then_ok (shaped r.kind r.size) _ tt tt (shaped_ok r.kind r.size v.shape)
     (then_ok (divided r.procs r.line r.lanes) _ tt tt (divided_ok r.procs r.line r.lanes v.lanes_in_line)
     (divisible_ok r.kind r.size r.modulus v.size.0 v.unit))))))))))
@@ -185,3 +190,44 @@ pub judged_conv_ok : (r : Request) → IsConvRequest r → judged_conv r ≡ Ok 
 judged_conv_ok r v =
     then_ok (tested r) (coprime r.size r.modulus >> Ok r) tt r (tested_ok r v.in_range)
     (then_ok (coprime r.size r.modulus) (Ok r) tt r (coprime_ok r.size r.modulus v.in_range.size.0 v.unit) refl)
+
+-- ---- the table of limits
+
+field_in_range : (r : Request) → IsInRange r → (field : Field) → IsBetween (limits field).0 (limits field).1
+    (value_of r field)
+field_in_range r v Size = v.size
+field_in_range r v Mod = v.modulus
+field_in_range r v Root = (omega arith, omega (arith, v.root, v.modulus.1))
+field_in_range r v Procs = v.procs
+field_in_range r v Line = v.line
+field_in_range r v Lanes = v.lanes
+field_in_range r v Unroll = v.unroll
+field_in_range r v Budget = v.budget
+field_in_range r v Weight = v.weight
+
+pub range_is_table : RangeIsTable
+range_is_table r = (
+  λ v. record {
+    fields = field_in_range r v;
+    root = v.root;
+    shape = v.shape;
+    lanes_in_line = v.lanes_in_line;
+    unit = v.unit;
+    dimensions = v.dimensions;
+  },
+  λ v. record {
+    size = v.fields Size;
+    modulus = v.fields Mod;
+    root = v.root;
+    procs = v.fields Procs;
+    line = v.fields Line;
+    lanes = v.fields Lanes;
+    unroll = v.fields Unroll;
+    budget = v.fields Budget;
+    weight = v.fields Weight;
+    shape = v.shape;
+    lanes_in_line = v.lanes_in_line;
+    unit = v.unit;
+    dimensions = v.dimensions;
+  },
+)

@@ -1,5 +1,5 @@
 -- What the tests of the request that a line spells say is the answer for the line.
-use Rattle.std.proofs.Common.{◌≡◌, ℕ, ◌*◌, ◌-◌, ◌^◌, ◌%◌, Bool, true, false, cond, eqb, leb, List, [], ◌∷◌, Result, Ok}
+use Rattle.std.proofs.Common.{◌≡◌, ℕ, ◌*◌, ◌%◌, Bool, true, false, cond, eqb, leb, List, [], ◌∷◌, Result, Ok}
 use Rattle.std.proofs.Common.{Err, sym, subst}
 use Rattle.std.specs.Int.{is_power_of_two}
 use Rattle.std.specs.Prelude.{IfOk}
@@ -17,7 +17,8 @@ use Rattle.request_text.specs.declared.fault.Field.TheVariants.{Size, Mod, Root,
 use Rattle.request_text.specs.declared.fault.Field.TheVariants.{Weight}
 use Rattle.request_text.specs.declared.fault.RequestFault.{RequestFault}
 use Rattle.request_text.specs.declared.fault.RequestFault.TheVariants.{Syntax, Range, Shape, LanesLine, NotUnit}
-use Rattle.request_text.specs.Limits.{◌>>◌, within, below, sizes_within, products_within, sized, roots_below, shaped}
+use Rattle.request_text.specs.Limits.{◌>>◌, between, within, below, sizes_within, products_within, sized, roots_below}
+use Rattle.request_text.specs.Limits.{shaped}
 use Rattle.request_text.specs.Limits.{divided, common_factor, coprime, divisible, limited, tested, judged, judged_conv}
 use Rattle.request_text.specs.Line.{request_line}
 use Rattle.request_text.proofs.Limits.{coprime_is, in_range, passed, passes}
@@ -47,17 +48,17 @@ guard_only false f h = h
 
 sizes_only : (ds : List Dimension) → Only (sizes_within ds)
 sizes_only [] = tt
-sizes_only (d ∷ ds) = then_only (within Size d.size 2 max_size) (sizes_within ds) (guard_only _ _ tt) (sizes_only ds)
+sizes_only (d ∷ ds) = then_only (between Size d.size 2 max_size) (sizes_within ds) (guard_only _ _ tt) (sizes_only ds)
 
 products_only : (before : ℕ) (ds : List Dimension) → Only (products_within before ds)
 products_only before [] = tt
 products_only before (d ∷ ds) =
-    then_only (within Size (before * d.size) 2 max_size) (products_within (before * d.size) ds) (guard_only _ _ tt)
+    then_only (between Size (before * d.size) 2 max_size) (products_within (before * d.size) ds) (guard_only _ _ tt)
     (products_only (before * d.size) ds)
 
 sized_only : (ds : List Dimension) → Only (sized ds)
 sized_only [] = tt
-sized_only (d ∷ []) = then_only (within Size d.size 1 max_size) (Ok d.size) (guard_only _ _ tt) tt
+sized_only (d ∷ []) = then_only (within Size d.size) (Ok d.size) (guard_only _ _ tt) tt
 sized_only (d ∷ e ∷ ds) =
     then_only (sizes_within (d ∷ e ∷ ds)) (products_within 1 (d ∷ e ∷ ds)) (sizes_only (d ∷ e ∷ ds))
     (products_only 1 (d ∷ e ∷ ds))
@@ -89,14 +90,14 @@ divisible_only Idft size modulus = coprime_only size modulus
 limited_only : (r : Request) → Only (limited r)
 unfolding limited
 limited_only r =
-    then_only (within Mod r.modulus 2 (2 ^ 62 - 1)) _ (guard_only _ _ tt)
+    then_only (within Mod r.modulus) _ (guard_only _ _ tt)
     (then_only (roots_below r.modulus (dims_of r)) _ (roots_only r.modulus (dims_of r))
-    (then_only (within Procs r.procs 1 16) _ (guard_only _ _ tt)
-    (then_only (within Line r.line 1 64) _ (guard_only _ _ tt)
-    (then_only (within Lanes r.lanes 1 16) _ (guard_only _ _ tt)
-    (then_only (within Unroll r.unroll 2 64) _ (guard_only _ _ tt)
-    (then_only (within Budget r.budget 1 1000000000000) _ (guard_only _ _ tt)
-    (then_only (within Weight r.weight 1 1000) _ (guard_only _ _ tt)
+    (then_only (within Procs r.procs) _ (guard_only _ _ tt)
+    (then_only (within Line r.line) _ (guard_only _ _ tt)
+    (then_only (within Lanes r.lanes) _ (guard_only _ _ tt)
+    (then_only (within Unroll r.unroll) _ (guard_only _ _ tt)
+    (then_only (within Budget r.budget) _ (guard_only _ _ tt)
+    (then_only (within Weight r.weight) _ (guard_only _ _ tt)
     (then_only (shaped r.kind r.size) _ (shaped_only r.kind r.size)
     (then_only (divided r.procs r.line r.lanes) _ (divided_only r.procs r.line r.lanes)
     (divisible_only r.kind r.size r.modulus))))))))))

@@ -1,5 +1,5 @@
 -- What the tests of a request say.
-use Rattle.std.proofs.Common.{◌≡◌, ℕ, ◌*◌, ◌-◌, ◌^◌, ◌<◌, ◌≤◌, ◌%◌, Bool, true, false, cond, eqb, ltb, leb, ◌&&◌, List}
+use Rattle.std.proofs.Common.{◌≡◌, ℕ, ◌*◌, ◌<◌, ◌≤◌, ◌%◌, Bool, true, false, cond, eqb, ltb, leb, ◌&&◌, List}
 use Rattle.std.proofs.Common.{[], ◌∷◌, Result, Ok, Err, refl, sym, subst, ◌∙◌, arith}
 use Rattle.std.specs.Prelude.{All}
 use Rattle.std.specs.Int.{is_power_of_two, IsGcd}
@@ -20,7 +20,8 @@ use Rattle.request_text.specs.declared.fault.Field.TheVariants.{Size, Mod, Root,
 use Rattle.request_text.specs.declared.fault.Field.TheVariants.{Weight}
 use Rattle.request_text.specs.declared.fault.RequestFault.{RequestFault}
 use Rattle.request_text.specs.declared.fault.RequestFault.TheVariants.{Range, Shape, LanesLine, NotUnit}
-use Rattle.request_text.specs.Limits.{◌>>◌, within, below, sizes_within, products_within, sized, roots_below, shaped}
+use Rattle.request_text.specs.Limits.{◌>>◌, limits, between, within, below, sizes_within, products_within, sized}
+use Rattle.request_text.specs.Limits.{roots_below, shaped}
 use Rattle.request_text.specs.Limits.{divided, common_factor, coprime, divisible, limited, tested}
 use Rattle.request_text.proofs.CommonFactor.{common_factor_is, gcd_exists}
 use Rattle.request_text.proofs.Said.{IsProduct, IsSaid, roots_in, sizes_in}
@@ -47,10 +48,13 @@ guard : (b : Bool) (f : RequestFault) → cond b passed (Err f) ≡ passed → b
 guard true f e = refl
 guard false f e = absurd cc
 
-within_is : (field : Field) (v low high : ℕ) → within field v low high ≡ Ok tt → IsBetween low high v
-within_is field v low high e =
+between_is : (field : Field) (v low high : ℕ) → between field v low high ≡ Ok tt → IsBetween low high v
+between_is field v low high e =
     let both = and_parts (leb low v) (leb v high) (guard (leb low v && leb v high) (Range field v) e) in
     (leb-true low v both.0, leb-true v high both.1)
+
+within_is : (field : Field) (v : ℕ) → within field v ≡ Ok tt → IsBetween (limits field).0 (limits field).1 v
+within_is field v e = between_is field v (limits field).0 (limits field).1 e
 
 below_is : (field : Field) (v limit : ℕ) → below field v limit ≡ Ok tt → v < limit
 below_is field v limit e = ltb-true v limit (guard (ltb v limit) (Range field v) e)
@@ -87,27 +91,27 @@ divisible_is Idft size modulus some e = coprime_is size modulus some e
 sizes_are : (ds : List Dimension) → sizes_within ds ≡ passed → All (IsBetween 2 max_size) (sizes_in ds)
 sizes_are [] e = All-nil (IsBetween 2 max_size)
 sizes_are (d ∷ ds) e =
-    let s = passes (within Size d.size 2 max_size) (sizes_within ds) tt e in
-    All-cons (IsBetween 2 max_size) d.size (sizes_in ds) (within_is Size d.size 2 max_size s.0) (sizes_are ds s.1)
+    let s = passes (between Size d.size 2 max_size) (sizes_within ds) tt e in
+    All-cons (IsBetween 2 max_size) d.size (sizes_in ds) (between_is Size d.size 2 max_size s.0) (sizes_are ds s.1)
 
 -- the last product is that of all sizes
 products_are : (before : ℕ) (d : Dimension) (ds : List Dimension) (n : ℕ) → products_within before (d ∷ ds) ≡ Ok n →
     (n ≡ before * product_of (sizes_in (d ∷ ds))) × IsBetween 2 max_size n
 products_are before d [] n e =
-    let s = passes (within Size (before * d.size) 2 max_size) (Ok (before * d.size)) n e in
+    let s = passes (between Size (before * d.size) 2 max_size) (Ok (before * d.size)) n e in
     let same : before * d.size ≡ n = cc in
-    (sym same, subst (IsBetween 2 max_size) same (within_is Size (before * d.size) 2 max_size s.0))
+    (sym same, subst (IsBetween 2 max_size) same (between_is Size (before * d.size) 2 max_size s.0))
 products_are before d (f ∷ ds) n e =
-    let s = passes (within Size (before * d.size) 2 max_size) (products_within (before * d.size) (f ∷ ds)) n e in
+    let s = passes (between Size (before * d.size) 2 max_size) (products_within (before * d.size) (f ∷ ds)) n e in
     let rest = products_are (before * d.size) f ds n s.1 in
     (rest.0 ∙ mul_assoc before d.size (product_of (sizes_in (f ∷ ds))), rest.1)
 
 pub sized_is : (ds : List Dimension) (n : ℕ) → sized ds ≡ Ok n → (n ≡ product_of (sizes_in ds)) × IsBetween 1 max_size n
 sized_is [] n e = let same : 1 ≡ n = cc in (sym same, subst (IsBetween 1 max_size) same (omega arith, omega arith))
 sized_is (d ∷ []) n e =
-    let s = passes (within Size d.size 1 max_size) (Ok d.size) n e in
+    let s = passes (within Size d.size) (Ok d.size) n e in
     let same : d.size ≡ n = cc in
-    (sym same, subst (IsBetween 1 max_size) same (within_is Size d.size 1 max_size s.0))
+    (sym same, subst (IsBetween 1 max_size) same (within_is Size d.size s.0))
 sized_is (d ∷ f ∷ ds) n e =
     let s = passes (sizes_within (d ∷ f ∷ ds)) (products_within 1 (d ∷ f ∷ ds)) n e in
     let p = products_are 1 d (f ∷ ds) n s.1 in
@@ -150,30 +154,30 @@ pub in_range : (r : Request) → IsSaid r r.dimensions → tested r ≡ Ok tt �
 unfolding limited
 in_range r said e =
     let s0 = gives (sized (dims_of r)) (limited r) tt e in
-    let s1 = passes (within Mod r.modulus 2 (2 ^ 62 - 1)) _ tt s0.2 in
+    let s1 = passes (within Mod r.modulus) _ tt s0.2 in
     let s2 = passes (roots_below r.modulus (dims_of r)) _ tt s1.1 in
-    let s3 = passes (within Procs r.procs 1 16) _ tt s2.1 in
-    let s4 = passes (within Line r.line 1 64) _ tt s3.1 in
-    let s5 = passes (within Lanes r.lanes 1 16) _ tt s4.1 in
-    let s6 = passes (within Unroll r.unroll 2 64) _ tt s5.1 in
-    let s7 = passes (within Budget r.budget 1 1000000000000) _ tt s6.1 in
-    let s8 = passes (within Weight r.weight 1 1000) _ tt s7.1 in
+    let s3 = passes (within Procs r.procs) _ tt s2.1 in
+    let s4 = passes (within Line r.line) _ tt s3.1 in
+    let s5 = passes (within Lanes r.lanes) _ tt s4.1 in
+    let s6 = passes (within Unroll r.unroll) _ tt s5.1 in
+    let s7 = passes (within Budget r.budget) _ tt s6.1 in
+    let s8 = passes (within Weight r.weight) _ tt s7.1 in
     let s9 = passes (shaped r.kind r.size) _ tt s8.1 in
     let s10 = passes (divided r.procs r.line r.lanes) _ tt s9.1 in
     let sizes = sized_is (dims_of r) s0.0 s0.1 in
     let size : IsBetween 1 max_size r.size =
     subst (IsBetween 1 max_size) (sizes.0 ∙ sym (size_said r r.dimensions said)) sizes.1 in
-    let modulus = within_is Mod r.modulus 2 (2 ^ 62 - 1) s1.0 in
+    let modulus = within_is Mod r.modulus s1.0 in
     record {
       size = size;
       modulus = modulus;
       root = root_said r r.dimensions said modulus.0 s2.0;
-      procs = within_is Procs r.procs 1 16 s3.0;
-      line = within_is Line r.line 1 64 s4.0;
-      lanes = within_is Lanes r.lanes 1 16 s5.0;
-      unroll = within_is Unroll r.unroll 2 64 s6.0;
-      budget = within_is Budget r.budget 1 1000000000000 s7.0;
-      weight = within_is Weight r.weight 1 1000 s8.0;
+      procs = within_is Procs r.procs s3.0;
+      line = within_is Line r.line s4.0;
+      lanes = within_is Lanes r.lanes s5.0;
+      unroll = within_is Unroll r.unroll s6.0;
+      budget = within_is Budget r.budget s7.0;
+      weight = within_is Weight r.weight s8.0;
       shape = shaped_is r.kind r.size s9.0;
       lanes_in_line = divided_is r.procs r.line r.lanes s10.0;
       unit = divisible_is r.kind r.size r.modulus size.0 s10.1;

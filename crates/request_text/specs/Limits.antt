@@ -17,9 +17,25 @@ abbrev pub ◌>>◌ : {A B : Type 0} → Result A RequestFault → Result B Requ
 (Ok x) >> next = next
 (Err fault) >> next = Err fault
 
+-- The least and the greatest value of each field. Each of several sizes is from 2 on, and a root is below the modulus
+abbrev pub limits : Field → ℕ × ℕ
+limits Size = (1, max_size)
+limits Mod = (2, 2 ^ 62 - 1)
+limits Root = (0, 2 ^ 62 - 2)
+limits Procs = (1, 16)
+limits Line = (1, 64)
+limits Lanes = (1, 16)
+limits Unroll = (2, 64)
+limits Budget = (1, 1000000000000)
+limits Weight = (1, 1000)
+
 -- the value of the field is from low to high
-abbrev pub within : Field → ℕ → ℕ → ℕ → Result (Unit {0}) RequestFault
-within field value low high = if nat_le low value && nat_le value high then Ok tt else Err (Range field value)
+abbrev pub between : Field → ℕ → ℕ → ℕ → Result (Unit {0}) RequestFault
+between field value low high = if nat_le low value && nat_le value high then Ok tt else Err (Range field value)
+
+-- it is within the limits of the field
+abbrev pub within : Field → ℕ → Result (Unit {0}) RequestFault
+within field value = between field value (limits field).0 (limits field).1
 
 abbrev pub below : Field → ℕ → ℕ → Result (Unit {0}) RequestFault
 below field value limit = if nat_lt value limit then Ok tt else Err (Range field value)
@@ -27,18 +43,18 @@ below field value limit = if nat_lt value limit then Ok tt else Err (Range field
 -- each size is within the limits of one of several
 abbrev pub sizes_within : List Dimension → Result (Unit {0}) RequestFault
 sizes_within [] = Ok tt
-sizes_within (d ∷ others) = within Size d.size 2 max_size >> sizes_within others
+sizes_within (d ∷ others) = between Size d.size 2 max_size >> sizes_within others
 
 -- So is each product of a front of the sizes, times what is before them; the last of these products
 abbrev pub products_within : ℕ → List Dimension → Result ℕ RequestFault
 products_within before [] = Ok before
 products_within before (d ∷ others) =
-    within Size (before * d.size) 2 max_size >> products_within (before * d.size) others
+    between Size (before * d.size) 2 max_size >> products_within (before * d.size) others
 
 -- the product of the sizes, which are within their limits: one size from 1 on, several from 2 on
 abbrev pub sized : List Dimension → Result ℕ RequestFault
 sized [] = Ok 1
-sized (d ∷ []) = within Size d.size 1 max_size >> Ok d.size
+sized (d ∷ []) = within Size d.size >> Ok d.size
 sized (d ∷ e ∷ others) = sizes_within (d ∷ e ∷ others) >> products_within 1 (d ∷ e ∷ others)
 
 -- each root is below the modulus
@@ -76,14 +92,14 @@ divisible kind size modulus = Ok tt
 -- its shape, then its lanes and line, then the factor that size and modulus share
 unfoldable pub limited : Request → Result (Unit {0}) RequestFault
 limited r = do
-  within Mod r.modulus 2 (2 ^ 62 - 1)
+  within Mod r.modulus
   roots_below r.modulus (dims_of r)
-  within Procs r.procs 1 16
-  within Line r.line 1 64
-  within Lanes r.lanes 1 16
-  within Unroll r.unroll 2 64
-  within Budget r.budget 1 1000000000000
-  within Weight r.weight 1 1000
+  within Procs r.procs
+  within Line r.line
+  within Lanes r.lanes
+  within Unroll r.unroll
+  within Budget r.budget
+  within Weight r.weight
   shaped r.kind r.size
   divided r.procs r.line r.lanes
   divisible r.kind r.size r.modulus

@@ -2,7 +2,8 @@
 ghost use Rattle.std.specs.Prelude.{◌≡◌, ◌≤◌, Ok, IfOk};
 ghost use Rattle.matrix_meaning.specs.Dimensions.{dims_of};
 ghost use Rattle.request_text.specs.OneToFour.{items, spelt};
-ghost use Rattle.request_text.specs.Limits.{within, below, sizes_within, products_within, sized, roots_below, shaped, divided, coprime, divisible, limited, judged};
+ghost use Rattle.request_text.specs.Limits.{limits, between, within, below, sizes_within, products_within, sized};
+ghost use Rattle.request_text.specs.Limits.{roots_below, shaped, divided, coprime, divisible, limited, judged};
 ghost use Rattle.request_text.specs.Line.{dimensions_of, root_of};
 
 use crate::fault::{Field, RequestFault};
@@ -12,9 +13,34 @@ use matrix_meaning::{Dimension, Dimensions, Kind, Request};
 use operators::MAX_SIZE;
 use ring_mod::gcd;
 
+/// The least and the greatest value of the field.
+fn limits(field: Field) -> (u64, u64)
+    ensures { result ≡ limits field }
+{
+    match field {
+        Field::Size => (1, MAX_SIZE),
+        Field::Mod => (2, (1 << 62) - 1),
+        Field::Root => (0, (1 << 62) - 2),
+        Field::Procs => (1, 16),
+        Field::Line => (1, 64),
+        Field::Lanes => (1, 16),
+        Field::Unroll => (2, 64),
+        Field::Budget => (1, 1_000_000_000_000),
+        Field::Weight => (1, 1_000),
+    }
+}
+
+/// The field's value is within its limits.
+fn within(field: Field, value: u64) -> Result<(), RequestFault>
+    ensures { result ≡ within field value }
+{
+    let (low, high) = limits(field);
+    between(field, value, low, high)
+}
+
 /// The field's value is from `low` to `high`.
-fn within(field: Field, value: u64, low: u64, high: u64) -> Result<(), RequestFault>
-    ensures { result ≡ within field value low high }
+fn between(field: Field, value: u64, low: u64, high: u64) -> Result<(), RequestFault>
+    ensures { result ≡ between field value low high }
 {
     if low <= value && value <= high {
         Ok(())
@@ -39,7 +65,7 @@ fn sizes_within(dimensions: &OneToFour<Dimension>) -> Result<(), RequestFault>
     ensures { result ≡ sizes_within (items dimensions.now) }
 {
     let (first, others) = dimensions.parts();
-    within(Field::Size, first.size, 2, MAX_SIZE)?;
+    between(Field::Size, first.size, 2, MAX_SIZE)?;
     match others {
         None => Ok(()),
         Some(others) => sizes_within(&others),
@@ -54,7 +80,7 @@ fn products_within(before: u64, dimensions: &OneToFour<Dimension>) -> Result<u64
 {
     let (first, others) = dimensions.parts();
     let product = before * first.size;
-    within(Field::Size, product, 2, MAX_SIZE)?;
+    between(Field::Size, product, 2, MAX_SIZE)?;
     match others {
         None => Ok(product),
         Some(others) => products_within(product, &others),
@@ -67,7 +93,7 @@ fn sized(dimensions: &OneToFour<Dimension>) -> Result<u64, RequestFault>
 {
     match dimensions.parts() {
         (only, None) => {
-            within(Field::Size, only.size, 1, MAX_SIZE)?;
+            within(Field::Size, only.size)?;
             Ok(only.size)
         }
         (_, Some(_)) => {
@@ -149,14 +175,14 @@ fn limited(request: &Request, dimensions: &OneToFour<Dimension>) -> Result<(), R
     requires dimensions { dims_of request.now ≡ items dimensions.now }
     ensures { result ≡ limited request.now }
 {
-    within(Field::Mod, request.modulus, 2, (1 << 62) - 1)?;
+    within(Field::Mod, request.modulus)?;
     roots_below(request.modulus, dimensions)?;
-    within(Field::Procs, request.procs, 1, 16)?;
-    within(Field::Line, request.line, 1, 64)?;
-    within(Field::Lanes, request.lanes, 1, 16)?;
-    within(Field::Unroll, request.unroll, 2, 64)?;
-    within(Field::Budget, request.budget, 1, 1_000_000_000_000)?;
-    within(Field::Weight, request.weight, 1, 1_000)?;
+    within(Field::Procs, request.procs)?;
+    within(Field::Line, request.line)?;
+    within(Field::Lanes, request.lanes)?;
+    within(Field::Unroll, request.unroll)?;
+    within(Field::Budget, request.budget)?;
+    within(Field::Weight, request.weight)?;
     shaped(request.kind, request.size)?;
     divided(request.procs, request.line, request.lanes)?;
     divisible(request.kind, request.size, request.modulus)?;

@@ -5,7 +5,7 @@ ghost use Rattle.request_text.specs.Answer.{Answers, ConvAnswers};
 ghost use Rattle.request_text.specs.ConvLine.{conv_line};
 ghost use Rattle.matrix_meaning.specs.Convolving.{IsConvRequest};
 ghost use Rattle.matrix_meaning.specs.Valid.{IsInRange};
-ghost use Rattle.request_text.specs.Laws.{SpellsOnce, HasOneAnswer, HasSomeAnswer, PassesBy};
+ghost use Rattle.request_text.specs.Laws.{SpellsOnce, HasOneAnswer, HasSomeAnswer, PassesBy, RangeIsTable};
 ghost use Rattle.request_text.specs.Limits.{judged, judged_conv};
 ghost use Rattle.request_text.specs.Line.{request_line};
 
@@ -31,8 +31,10 @@ pub fn lines_have_one_answer()
     ensures conv_some { HasSomeAnswer ConvAnswers }
 {}
 
-/// Of the requests that lines spell, those in range have no fault, and no others.
+/// Of the requests that lines spell, those in range have no fault, and no others. They are in range where each field is
+/// within its limits in the table.
 pub fn requests_in_range_pass()
     ensures requests { PassesBy request_line judged IsInRange }
+    ensures limits { RangeIsTable }
     ensures convolutions { PassesBy conv_line judged_conv IsConvRequest }
 {}

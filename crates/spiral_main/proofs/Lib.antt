@@ -12,4 +12,5 @@ pub mod RightRequests
 pub mod RunAnswer
 pub mod SomeOutcome
 pub mod Theorem
+pub mod Traced
 pub mod FormulaTheorem

@@ -15,10 +15,12 @@ use Rattle.icode.proofs.FreshCodes.{fresh_ignores_leftovers, programs_have_facto
 use Rattle.icode.proofs.Lists.{code_is}
 use Rattle.icode.proofs.Runs.{memory_of_runs}
 use Rattle.icode.specs.Actions.{PlainFits, plain_code}
+use Rattle.icode.specs.Buffers.{buffered_results}
 use Rattle.icode.specs.Fresh.{IsFresh}
 use Rattle.icode.specs.Limits.{IsWithinLimits}
 use Rattle.icode.specs.Plain.{PlainProgram}
 use Rattle.icode.specs.Machine.{IsApart, padded, results, words_at}
+use Rattle.icode.specs.declared.event.Event.{Event}
 use Rattle.listing_text.specs.Listing.{listing_of}
 use Rattle.listing_text.specs.Texts.{is_listing}
 use Rattle.matrix_meaning.specs.Asked.{asked_of}
@@ -40,6 +42,21 @@ use Rattle.spiral_main.proofs.RightFront.{data_are_right, right_success, text_is
 use Rattle.spiral_main.proofs.RightLines.{spelt_in_range}
 use Rattle.tree_model.specs.Breakdown.{Breakdown}
 
+-- what a program whose processors share no line leaves is what it leaves where no turn comes first
+pub by_turns : (p : PlainProgram) → ((phase : ℕ) → IsApart (plain_code p) phase) → (x turns : List ℕ)
+    → results (plain_code p) x turns ≡ results (plain_code p) x []
+by_turns p apart x turns =
+    let code = plain_code p in
+    let in_order = memory_of_runs code (code_is p) apart in
+    ap (λ (memory : List ℕ). words_at code.size memory (padded code)) (in_order x turns ∙ sym (in_order x []))
+
+pub by_events : (p : PlainProgram) → ((phase : ℕ) → IsApart (plain_code p) phase) → (x : List ℕ) (events : List Event)
+    → buffered_results (plain_code p) x events ≡ results (plain_code p) x []
+by_events p apart x events =
+    let code = plain_code p in
+    ap (λ (memory : List ℕ). words_at code.size memory (padded code))
+    (memory_of_buffered code (code_is p) apart x events ∙ sym (memory_of_runs code (code_is p) apart x []))
+
 -- a program that fits, reads nothing that is left over and leaves what is asked where no turn comes first leaves it
 -- whatever is around
 pub leaves_asked : (IsInput : List ℕ → Type 0) (asked : List ℕ → List ℕ) (p : PlainProgram) → IsWithinLimits p
@@ -48,10 +65,8 @@ pub leaves_asked : (IsInput : List ℕ → Type 0) (asked : List ℕ → List �
     → ((x : List ℕ) → IsInput x → results (plain_code p) x [] ≡ asked x) → Leaves IsInput asked p
 leaves_asked IsInput asked p limits few fits fresh apart long first =
     let code = plain_code p in
-    let in_order = memory_of_runs code (code_is p) apart in
-    let of_memory = λ (memory : List ℕ). words_at code.size memory (padded code) in
     let product : (x turns : List ℕ) → IsInput x → results code x turns ≡ asked x =
-    λ x turns input. ap of_memory (in_order x turns ∙ sym (in_order x [])) ∙ first x input
+    λ x turns input. by_turns p apart x turns ∙ first x input
     in
     record {
       listed = (limits, few, refl);
@@ -61,8 +76,7 @@ leaves_asked IsInput asked p limits few fits fresh apart long first =
           fresh_ignores_leftovers code left (code_is p) (programs_have_factors p) fresh are x turns (long x input)
           ∙ product x turns input;
       fresh = fresh;
-      buffered = λ x events input.
-          ap of_memory (memory_of_buffered code (code_is p) apart x events ∙ sym (in_order x [])) ∙ first x input;
+      buffered = λ x events input. by_events p apart x events ∙ first x input;
       apart = apart;
     }
 

@@ -1,5 +1,6 @@
 pub mod Outcome
 pub mod Good
+pub mod Traced
 pub mod RightFront
 pub mod Right
 pub mod Theorem

@@ -23,6 +23,7 @@ ghost use Rattle.listing_text.specs.Listing.{listing_of};
 ghost use Rattle.schedules.specs.Turns.{named};
 ghost use Rattle.spiral_main.specs.Generator.{OneGenerator};
 ghost use Rattle.spiral_main.specs.Good.{IsGoodFor, IsLeanFor, Prints, Shows, ShowsConvolver, Traces, vectors_read};
+ghost use Rattle.spiral_main.specs.Traced.{EndsWithResults};
 ghost use Rattle.spiral_main.specs.RightFront.{IsRightConvLine, IsRightFormulaLine, IsRightLine};
 ghost use Rattle.spl_ast.specs.Formula.{Formula};
 ghost use Rattle.spiral_main.specs.Outcome.{IsOutcome};
@@ -178,6 +179,11 @@ pub fn trace_is_good()
 /// And its program, too, does exactly what the tree does.
 pub fn trace_is_lean()
     ensures { Traces IsLeanFor }
+{}
+
+/// In every order, also with store buffers, the lines of a vector's run end with the line of the matrix times it.
+pub fn trace_gives_results()
+    ensures { Traces EndsWithResults }
 {}
 
 /// The listing that `compile` prints for a right line is that of code of the line's formula.

@@ -1,7 +1,8 @@
 -- The grammar of formulas by their heads. What stands behind a head is put together from numbers and formulas, with commas between them
 -- and a parenthesis at the end. The texts of each such piece are those of its good values (`HasTexts`), so both ways between the grammar
 -- and the spelling follow from a few laws.
-use Rattle.std.proofs.Common.{◌≡◌, ℕ, ◌+◌, ◌^◌, ◌<◌, List, [], ◌∷◌, ◌++◌, codes, decimal, refl, sym, ap, subst, ◌∙◌, append_assoc}
+use Rattle.std.proofs.Common.{◌≡◌, ℕ, ◌^◌, ◌<◌, List, [], ◌∷◌, ◌++◌, codes, decimal, refl, sym, ap, subst, ◌∙◌}
+use Rattle.std.proofs.Common.{append_assoc}
 use Rattle.std.proofs.Common.{inl, inr, arith}
 use Rattle.std.proofs.lemmas.List.{append-nil}
 use Rattle.grammar.specs.Grammar.{◌>>=◌, ◌>>◌, Follows, Begins, pure, word, one_of, number, positive, named_number, many}
@@ -271,15 +272,18 @@ values_texts = record { from = from_values; back = to_values }
     to_values (x ∷ xs) h =
         subst (λ t. values t (x ∷ xs)) (sym (append_assoc (decimal x) (more_text xs) (codes ")"))) (first_and_more.back (x, xs) h)
 
-two_formulas_texts : (make : Formula → Formula → Formula) → HasTexts (two_formulas make) (λ (x : Formula × Formula). make x.0 x.1)
+pub two_formulas_texts : (make : Formula → Formula → Formula) → HasTexts (two_formulas make)
+    (λ (x : Formula × Formula). make x.0 x.1)
     (λ x. HasSpelling x.0 × HasSpelling x.1) (λ x. spelling x.0 ++ (codes "," ++ (spelling x.1 ++ codes ")")))
 two_formulas_texts make = pair_texts formula_texts formula_texts make
 
-left_texts : HasTexts (arguments head.Left) (λ (x : Formula × ℕ). TensorLeft x.0 x.1) (λ x. HasSpelling x.0 × IsFactor x.1)
+pub left_texts : HasTexts (arguments head.Left) (λ (x : Formula × ℕ). TensorLeft x.0 x.1)
+    (λ x. HasSpelling x.0 × IsFactor x.1)
     (λ x. spelling x.0 ++ (codes "," ++ (decimal x.1 ++ codes ")")))
 left_texts = pair_texts formula_texts size_texts TensorLeft
 
-right_texts : HasTexts (arguments head.Right) (λ (x : ℕ × Formula). TensorRight x.0 x.1) (λ x. IsFactor x.0 × HasSpelling x.1)
+pub right_texts : HasTexts (arguments head.Right) (λ (x : ℕ × Formula). TensorRight x.0 x.1)
+    (λ x. IsFactor x.0 × HasSpelling x.1)
     (λ x. decimal x.0 ++ (codes "," ++ (spelling x.1 ++ codes ")")))
 right_texts = pair_texts size_texts formula_texts TensorRight
 
@@ -342,7 +346,7 @@ from_heads u f l =
 to_arguments : (h : Head) (v : List ℕ) (f : Formula) → arguments h v f → by_heads (head_word h ++ v) f
 to_arguments h v f l = follows (one_of heads) arguments (head_word h) v h f (head_of_word h) l
 
-spelt_by_heads : (f : Formula) → HasSpelling f → by_heads (spelling f) f
+pub spelt_by_heads : (f : Formula) → HasSpelling f → by_heads (spelling f) f
 unfolding spells
 spelt_by_heads (Identity n) h = to_arguments head.I _ (Identity n) ((made_texts one_size_texts Identity).back n h)
 spelt_by_heads (Fourier n w) h = to_arguments head.Dft _ (Fourier n w) ((made_texts size_value_texts _).back (n, w) h)

@@ -6,7 +6,7 @@ use Rattle.grammar.specs.Stops.{Fault, passed, tested_at}
 use Rattle.spl_ast.specs.Formula.{Formula}
 use Rattle.spl_text.specs.declared.reading.Halt.{Halt}
 use Rattle.spl_text.specs.declared.reading.Halt.TheVariants as halts
-use Rattle.spl_text.specs.Answer.{Says, Judged}
+use Rattle.spl_text.specs.Reader.{Says, Judged}
 use Rattle.spl_text.specs.Fault.{Shape, shape_fault}
 
 pub says_judged : (r : Result Formula Halt) (left : ℕ) (g : Formula) (place : Place ℕ) → Judged r left g →

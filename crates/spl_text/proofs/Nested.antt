@@ -73,7 +73,7 @@ module _ (k : ℕ) where
       subst (IsLow (k + 1)) (same_ok (make g1.0.0 g3.0.0, g4.0.1) y g4.2)
       (low g1.0.0 g3.0.0 (first place g1.0 g1.1) (second g2.0.1 g3.0 g3.1))
 
-  arguments_nesting : (read : Place ℕ → Result (Formula × Place ℕ) (Stop TextFault)) →
+  pub arguments_nesting : (read : Place ℕ → Result (Formula × Place ℕ) (Stop TextFault)) →
       ((place : Place ℕ) (x : Formula × Place ℕ) → read place ≡ Ok x → IsLow k x.0)
       → (h : Head) (place : Place ℕ) (y : Formula × Place ℕ) → arguments_by read h place ≡ Ok y → IsLow (k + 1) y.0
   arguments_nesting read inner head.I = made_nesting one_size_at Identity (λ x. omega arith)
@@ -106,20 +106,26 @@ formula_nesting (suc depth) place y e =
     let g = go_ok (plain (one_of_at heads) place) (arguments_by (formula_at depth)) y (tested_ok _ _ y e) in
     omega (arith, arguments_nesting depth (formula_at depth) (formula_nesting depth) g.0.0 g.0.1 y g.2)
 
-line_nesting : (place : Place ℕ) (y : Formula × Place ℕ) → line_at place ≡ Ok y → nesting_of y.0 ≤ 128
-line_nesting place y e =
+line_has : (P : Formula → Type 0) (place : Place ℕ) → ((y : Formula × Place ℕ) → formula_at 128 place ≡ Ok y → P y.0) →
+    (y : Formula × Place ℕ) → line_at place ≡ Ok y → P y.0
+line_has P place inner y e =
     let g1 = go_ok (formula_at 128 place) _ y e in
     let g2 = go_ok _ (λ _. plain (pure_at g1.0.0)) y g1.2 in
-    subst (λ f. nesting_of f ≤ 128) (same_ok (g1.0.0, g2.0.1) y g2.2) (formula_nesting 128 place g1.0 g1.1)
+    subst P (same_ok (g1.0.0, g2.0.1) y g2.2) (inner g1.0 g1.1)
 
 ended_ok : (x f : Formula) (rest : List ℕ) (far : ℕ) → ended_formula (ended x rest far) ≡ Ok f → x ≡ f
 ended_ok x f [] far e = cc
 ended_ok x f (y ∷ rest) far e = absurd cc
 
-whole_nesting : (f : Formula) (r : Result (Formula × Place ℕ) (Stop TextFault)) →
-    ((y : Formula × Place ℕ) → r ≡ Ok y → nesting_of y.0 ≤ 128) → all_of r ≡ Ok f → nesting_of f ≤ 128
-whole_nesting f (Ok x) h e = subst (λ g. nesting_of g ≤ 128) (ended_ok x.0 f x.1.rest x.1.far e) (h x refl)
-whole_nesting f (Err s) h e = absurd cc
+whole_has : (P : Formula → Type 0) (f : Formula) (r : Result (Formula × Place ℕ) (Stop TextFault)) →
+    ((y : Formula × Place ℕ) → r ≡ Ok y → P y.0) → all_of r ≡ Ok f → P f
+whole_has P f (Ok x) h e = subst P (ended_ok x.0 f x.1.rest x.1.far e) (h x refl)
+whole_has P f (Err s) h e = absurd cc
+
+-- what holds of a formula that is read holds of the whole text's
+pub text_has : (P : Formula → Type 0) (text : List ℕ) (f : Formula) →
+    ((y : Formula × Place ℕ) → formula_at 128 (start text) ≡ Ok y → P y.0) → whole_line text ≡ Ok f → P f
+text_has P text f inner e = whole_has P f (line_at (start text)) (line_has P (start text) inner) e
 
 complete_of : (f : Formula) → HasSpelling f → IsComplete f
 complete_of (Identity n) h = tt
@@ -144,5 +150,5 @@ spelt_of text f l = subst HasSpelling (sym l.ends.ends.1) l.begins.0
 pub read_is_printable : (text : List ℕ) (f : Formula) → spells_line text f → whole_line text ≡ Ok f → IsPrintable f
 read_is_printable text f l e = record {
   complete = complete_of f (spelt_of text f l);
-  shallow = whole_nesting f (line_at (start text)) (line_nesting (start text)) e;
+  shallow = text_has (λ g. nesting_of g ≤ 128) text f (formula_nesting 128 (start text)) e;
 }

@@ -13,10 +13,10 @@ use Rattle.spl_ast.specs.Nesting.{nesting_of}
 use Rattle.spl_text.specs.Answer.{opened, closed, IsShallow}
 use Rattle.spl_text.specs.Spelling.{spelling, more_text, values_text, AreValues, AreSomeValues, IsFactor, HasSpelling}
 
-opened_both : (xs ys : List ℕ) → opened (xs ++ ys) ≡ opened xs + opened ys
+pub opened_both : (xs ys : List ℕ) → opened (xs ++ ys) ≡ opened xs + opened ys
 opened_both xs ys = sum_by-append _ xs ys
 
-closed_both : (xs ys : List ℕ) → closed (xs ++ ys) ≡ closed xs + closed ys
+pub closed_both : (xs ys : List ℕ) → closed (xs ++ ys) ≡ closed xs + closed ys
 closed_both xs ys = sum_by-append _ xs ys
 
 -- more are opened than closed, by this number
@@ -58,7 +58,7 @@ digits_balanced (x ∷ xs) h =
     let low = (digit_from_value x h.0).0 in
     balanced (x ∷ []) xs (ap (λ n. 0 + n) (no_code 40 x (omega arith) low) ∙ sym (ap (λ n. 0 + n + 0) (no_code 41 x (omega arith) low))) (digits_balanced xs h.1)
 
-decimal_balanced : (n : ℕ) → n < 2 ^ 64 → Opens 0 (decimal n)
+pub decimal_balanced : (n : ℕ) → n < 2 ^ 64 → Opens 0 (decimal n)
 decimal_balanced n h = digits_balanced (decimal n) (decimal_is_IsNumeral n h).0.1
 
 pub size_balanced : (n : ℕ) → IsFactor n → Opens 0 (decimal n)
@@ -69,7 +69,7 @@ more_balanced [] h = refl
 more_balanced (x ∷ xs) h =
     balanced (codes ",") (decimal x ++ more_text xs) refl (balanced (decimal x) (more_text xs) (decimal_balanced x (omega (arith, h.0))) (more_balanced xs h.1))
 
-values_balanced : (xs : List ℕ) → AreSomeValues xs → Opens 0 (values_text xs)
+pub values_balanced : (xs : List ℕ) → AreSomeValues xs → Opens 0 (values_text xs)
 values_balanced [] h = absurd h
 values_balanced (x ∷ xs) h = balanced (decimal x) (more_text xs) (decimal_balanced x (omega (arith, h.0))) (more_balanced xs h.1)
 
@@ -127,10 +127,10 @@ digits_open_none : (xs : List ℕ) → AllDigits 10 xs → opened xs ≡ 0
 digits_open_none [] h = refl
 digits_open_none (x ∷ xs) h = opens_none (x ∷ []) xs (ap (λ n. 0 + n) (no_code 40 x (omega arith) (digit_from_value x h.0).0)) (digits_open_none xs h.1)
 
-decimal_opens_none : (n : ℕ) → n < 2 ^ 64 → opened (decimal n) ≡ 0
+pub decimal_opens_none : (n : ℕ) → n < 2 ^ 64 → opened (decimal n) ≡ 0
 decimal_opens_none n h = digits_open_none (decimal n) (decimal_is_IsNumeral n h).0.1
 
-size_opens_none : (n : ℕ) → IsFactor n → opened (decimal n) ≡ 0
+pub size_opens_none : (n : ℕ) → IsFactor n → opened (decimal n) ≡ 0
 size_opens_none n h = decimal_opens_none n (omega (arith, h.1))
 
 more_opens_none : (xs : List ℕ) → AreValues xs → opened (more_text xs) ≡ 0
@@ -138,7 +138,7 @@ more_opens_none [] h = refl
 more_opens_none (x ∷ xs) h =
     opens_none (codes ",") (decimal x ++ more_text xs) refl (opens_none (decimal x) (more_text xs) (decimal_opens_none x (omega (arith, h.0))) (more_opens_none xs h.1))
 
-values_open_none : (xs : List ℕ) → AreSomeValues xs → opened (values_text xs) ≡ 0
+pub values_open_none : (xs : List ℕ) → AreSomeValues xs → opened (values_text xs) ≡ 0
 values_open_none [] h = absurd h
 values_open_none (x ∷ xs) h = opens_none (decimal x) (more_text xs) (decimal_opens_none x (omega (arith, h.0))) (more_opens_none xs h.1)
 
@@ -163,7 +163,7 @@ around n w xs ys one none o p s t =
     (shallow_both 0 n n xs (codes "," ++ (ys ++ codes ")")) o s
     (shallow_both 0 n n (codes ",") (ys ++ codes ")") refl (shallow_by_count n (codes ",") (omega arith)) (then_closed n ys p t) (omega arith)) (omega arith)) (omega arith)
 
-less_shallow : (n k : ℕ) (text : List ℕ) → n ≤ k → IsShallow n text → IsShallow k text
+pub less_shallow : (n k : ℕ) (text : List ℕ) → n ≤ k → IsShallow n text → IsShallow k text
 less_shallow n k text h s x y e = omega (arith, s x y e, h)
 
 number_shallow : (n : ℕ) (xs : List ℕ) → opened xs ≡ 0 → IsShallow n xs

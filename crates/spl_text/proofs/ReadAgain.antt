@@ -18,7 +18,7 @@ use Rattle.spl_text.specs.declared.reading.Head.TheVariants as head
 use Rattle.spl_text.specs.declared.reading.Halt.{Halt}
 use Rattle.spl_text.specs.declared.reading.Halt.TheVariants as halts
 use Rattle.spl_text.specs.declared.reading.SplFault.TheVariants as faults
-use Rattle.spl_text.specs.Answer.{SaysAll, fault_of}
+use Rattle.spl_text.specs.Reader.{SaysAll, fault_of}
 use Rattle.spl_text.specs.Arguments.{factor_at, one_size_at, two_sizes_at, size_value_at}
 use Rattle.spl_text.specs.Arguments.{sizes_value_at, values_at}
 use Rattle.spl_text.specs.Fault.{TextFault, TooDeep, Shape, refusal, shape_fault}

@@ -217,14 +217,21 @@ exposes : (fault : TextFault) (text : List ℕ) → HasFault spells shape_fault 
 exposes (TooDeep left) text h = absurd (no_depth (refusal h.3) (length (h.1 ++ h.2)) left h.6)
 exposes (Shape left first second) text h = h
 
+-- a part, before its test
+pub part_reader : (read : Place ℕ → Result (Formula × Place ℕ) (Stop TextFault)) →
+    IsReader Exposes Anything spells read →
+    IsReader Exposes Anything spells (λ place. and_go_on (plain (one_of_at heads) place) (arguments_by read))
+part_reader read inner =
+    change_reader Exposes Anything by_heads spells _ from_heads to_heads
+    (bind_reader Exposes Anything Anything _ _ _ _ persists (plain_reader Exposes Anything _ _ heads_reader)
+    (λ h u l. arguments_reader read inner h) (λ h. any (arguments h)))
+
 pub formula_reader : (depth : ℕ) → IsReader Exposes Anything spells (formula_at depth)
 unfolding formula_at
 formula_reader zero =
     change_reader Exposes Anything by_heads spells _ from_heads to_heads (record { some = (spelling one, one, one_formula); each = λ place. deep_answers place (one_of_at heads place) (heads_reader.each place) })
-formula_reader (suc depth) =
-    tested_reader Exposes Anything spells shape_fault _ exposes
-    (change_reader Exposes Anything by_heads spells _ from_heads to_heads
-    (bind_reader Exposes Anything Anything _ _ _ _ persists (plain_reader Exposes Anything _ _ heads_reader) (λ h u l. arguments_reader (formula_at depth) (formula_reader depth) h) (λ h. any (arguments h))))
+formula_reader (suc depth) = tested_reader Exposes Anything spells shape_fault _ exposes
+    (part_reader (formula_at depth) (formula_reader depth))
 
 -- ---- the line
 

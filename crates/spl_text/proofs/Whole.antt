@@ -12,15 +12,13 @@ use Rattle.grammar.proofs.Stops.{Answers}
 use Rattle.spl_ast.specs.Formula.{Formula}
 use Rattle.spl_text.specs.declared.reading.Halt.{Halt}
 use Rattle.spl_text.specs.declared.reading.Halt.TheVariants as halts
-use Rattle.spl_text.specs.Answer.{SaysAll, IsWithin, fault_of, IsLeft, IsFirst, Shows}
+use Rattle.spl_text.specs.Reader.{SaysAll, IsWithin}
 use Rattle.spl_text.specs.Fault.{TextFault, TooDeep, Shape, refusal}
 use Rattle.spl_text.specs.Reading.{line_at, ended_formula, all_of, whole_line}
 use Rattle.spl_text.specs.Spelling.{spells_line}
-use Rattle.spl_text.proofs.Deep.{text_deep}
-use Rattle.spl_text.proofs.Nested.{read_is_printable}
 use Rattle.spl_text.proofs.Readers.{Exposes, line_reader}
 
-abbrev TextAnswers : List ℕ → Result Formula (Stop TextFault) → Type 0
+abbrev pub TextAnswers : List ℕ → Result Formula (Stop TextFault) → Type 0
 TextAnswers text (Ok f) = spells_line text f
 TextAnswers text (Err (Lost left)) = (left ≤ length text) × IsStuck spells_line text (length text - left)
 TextAnswers text (Err (Fault fault)) = Exposes fault text
@@ -35,7 +33,7 @@ all_answers text (Ok x) p = at_end text (ended x.0 x.1.rest x.1.far) (judged Not
 all_answers text (Err (Lost left)) p = judged {A = Formula} Nothing spells_line refl text (Err left) p
 all_answers text (Err (Fault fault)) p = p
 
-text_answers : (text : List ℕ) (r : Result Formula (Stop TextFault)) → whole_line text ≡ r → TextAnswers text r
+pub text_answers : (text : List ℕ) (r : Result Formula (Stop TextFault)) → whole_line text ≡ r → TextAnswers text r
 text_answers text r e = subst (TextAnswers text) e (all_answers text (line_at (start text)) (line_reader.each (start text)))
 
 shape_is : (o : Option (ℕ × ℕ)) (n left a b : ℕ) → option_map (λ p. Shape n p.0 p.1) o ≡ Some (Shape left a b) →
@@ -57,30 +55,3 @@ within text (halts.Shape left first second) e =
     let h = text_answers text (Err (Fault (Shape left first second))) e in
     let long : length text ≡ length h.0 + length (h.1 ++ h.2) = ap length h.4 ∙ length-append h.0 (h.1 ++ h.2) in
     omega (arith, long, (shape_is (refusal h.3) (length (h.1 ++ h.2)) left first second h.6).0)
-
-placed : (text : List ℕ) (left : ℕ) → left ≤ length text → IsLeft text (length text - left) left
-placed text left h = record { within = omega arith; left_is = omega arith }
-
-pub first_fault : (text : List ℕ) (halt : Halt) → SaysAll (Err halt) (whole_line text) →
-    IsFirst text (Err (fault_of (length text) halt))
-first_fault text halts.NoMemory e = tt
-first_fault text (halts.Syntax left) e = (left, placed text left (within text (halts.Syntax left) e), e)
-first_fault text (halts.TooDeep left) e = (left, placed text left (within text (halts.TooDeep left) e), e)
-first_fault text (halts.Shape left first second) e = (left, placed text left (within text (halts.Shape left first second) e), e)
-
-pub shows_formula : (text : List ℕ) (f : Formula) → whole_line text ≡ Ok f → Shows text (Ok f)
-shows_formula text f e = let spelt = text_answers text (Ok f) e in (spelt, read_is_printable text f spelt e)
-
-pub shows_fault : (text : List ℕ) (halt : Halt) → SaysAll (Err halt) (whole_line text) →
-    Shows text (Err (fault_of (length text) halt))
-shows_fault text halts.NoMemory e = tt
-shows_fault text (halts.Syntax left) e = (text_answers text (Err (Lost left)) e).1
-shows_fault text (halts.TooDeep left) e =
-    let h = text_deep text left e in
-    let long : length text ≡ length h.before + length (40 ∷ h.after) = ap length h.whole ∙ length-append h.before (40 ∷ h.after) in
-    record { before = h.before; after = h.after; whole = h.whole; place = omega (arith, long, h.long); opens = h.level; shallow = h.shallow; begins = h.front }
-shows_fault text (halts.Shape left first second) e =
-    let h = text_answers text (Err (Fault (Shape left first second))) e in
-    let s = shape_is (refusal h.3) (length (h.1 ++ h.2)) left first second h.6 in
-    let long : length text ≡ length h.0 + length (h.1 ++ h.2) = ap length h.4 ∙ length-append h.0 (h.1 ++ h.2) in
-    record { before = h.0; part = h.1; after = h.2; value = h.3; whole = h.4; place = omega (arith, long, s.0); spelt = h.5; refused = s.1 }

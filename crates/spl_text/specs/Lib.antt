@@ -3,3 +3,5 @@ pub mod Fault
 pub mod Arguments
 pub mod Reading
 pub mod Answer
+pub mod Reader
+pub mod Laws

@@ -3,7 +3,7 @@ ghost use Rattle.std.specs.Prelude.{◌≡◌, ℕ, ◌<◌, ◌≤◌, ◌↔�
 ghost use Rattle.std.specs.List.{range_with_len};
 ghost use Rattle.spl_ast.specs.Formula.{Identity, Fourier, Hadamard, Twiddles, Diagonal, Stride, Permutation, GoodThomasIn, GoodThomasOut, Product, TensorLeft, TensorRight, DirectSum};
 ghost use Rattle.spl_ast.specs.Shape.{IsSize, IsRingValue, AreGoodThomasFactors};
-ghost use Rattle.spl_text.specs.Answer.{Judged};
+ghost use Rattle.spl_text.specs.Reader.{Judged};
 ghost use Rattle.spl_text.specs.declared.reading.Halt.TheVariants as halts;
 ghost use Rattle.spl_text.specs.Fault.{are_coprime, first_stray};
 

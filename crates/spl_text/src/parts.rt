@@ -1,7 +1,7 @@
 // The parts that are made of numbers alone, after their heads. A part begins at a place, by how much of the text is left there.
 ghost use Rattle.grammar.specs.Stops.{tested_at};
 ghost use Rattle.spl_ast.specs.Formula.{Identity, Fourier, Hadamard, Twiddles, Diagonal, Stride, Permutation, GoodThomasIn, GoodThomasOut};
-ghost use Rattle.spl_text.specs.Answer.{Says};
+ghost use Rattle.spl_text.specs.Reader.{Says};
 ghost use Rattle.spl_text.specs.Arguments.{one_size_at, two_sizes_at, size_value_at, sizes_value_at, values_at};
 ghost use Rattle.spl_text.specs.Fault.{shape_fault};
 ghost use Rattle.spl_text.specs.Reading.{made_at};

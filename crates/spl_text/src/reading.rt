@@ -2,7 +2,8 @@
 ghost use Rattle.std.specs.Prelude.{◌≡◌, ℕ, ◌+◌, ◌≤◌, length, IfOk, IsOkUnless, Ok, codes};
 ghost use Rattle.grammar.specs.Cursor.{Gives};
 ghost use Rattle.grammar.specs.Reading.{one_of_at, optional_at, word_at};
-ghost use Rattle.spl_text.specs.Answer.{Says, SaysAll, IsFirst, Shows, IsWithin, fault_of};
+ghost use Rattle.spl_text.specs.Answer.{Answers};
+ghost use Rattle.spl_text.specs.Reader.{Says, SaysAll, IsWithin, fault_of};
 ghost use Rattle.grammar.specs.Stops.{tested_at};
 ghost use Rattle.spl_ast.specs.Formula.{Formula, Product, DirectSum, parts_of};
 ghost use Rattle.spl_ast.specs.Nesting.{IsPrintable};
@@ -91,7 +92,7 @@ impl From<NoMemory> for Halt {
 }
 
 impl From<ReadError> for Halt {
-    ghost use Rattle.spl_text.specs.Answer.{halt_of};
+    ghost use Rattle.spl_text.specs.Reader.{halt_of};
 
     ghost from_gives = { λ error e. e ≡ halt_of error };
 
@@ -252,13 +253,12 @@ fn whole_text(alloc: Global, text: &[u8]) -> Result<Spl, Halt>
     Ok(f)
 }
 
-/// The formula that a text spells, with or without a line end after it; or the first fault from left to right.
+/// The formula that a text spells, with or without a line end after it; or its first fault, at the least place.
 /// The text of a formula that can be printed is read as that formula, unless memory runs out. A formula has at most as
 /// many parts as its text has bytes.
-#[tactic(auto, using(crate::proofs::Whole::within, crate::proofs::Whole::first_fault, crate::proofs::Whole::shows_formula, crate::proofs::Whole::shows_fault))]
+#[tactic(auto, using(crate::proofs::Whole::within))]
 pub fn read_spl(alloc: Global, text: &[u8]) -> Result<Spl, SplFault>
-    ensures first { IsFirst text.now result }
-    ensures shows { Shows text.now result }
+    ensures answer { Answers text.now result }
     ensures parts { IfOk result (λ f. parts_of f ≤ length text.now) }
     ensures only { (f : Formula) → spells_line text.now f → IsShaped f → IsPrintable f
         → IsOkUnless result faults.NoMemory × IfOk result (λ g. g ≡ f) }

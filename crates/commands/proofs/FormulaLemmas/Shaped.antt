@@ -23,6 +23,7 @@ use Rattle.spl_text.specs.Fault.{shape_fault, share_factor}
 use Rattle.spl_text.specs.Reading.{heads, plain, made_at, arguments_by, two_formulas_by, tensor_left_by}
 use Rattle.spl_text.specs.Reading.{tensor_right_by, too_deep, formula_at, line_at, ended_formula, all_of}
 use Rattle.spl_text.specs.Spelling.{spells, spells_line, AreSomeValues, AreValues, HasSpelling, IsFactor}
+use Rattle.spl_text.proofs.Answering.{answer_is_read}
 use Rattle.spl_text.proofs.Coprime.{gcd_from_shared, multiple}
 use Rattle.spl_text.proofs.Lengths.{few_parts}
 use Rattle.spl_text.proofs.Strays.{permutation_of}
@@ -298,7 +299,9 @@ unfolding spells
 spelt_of text f l = subst HasSpelling (sym l.ends.ends.1) l.begins.0
 
 pub written_shaped : (text : List ℕ) (f : Formula) → written text (Ok f) → IsShaped f
-written_shaped text f p = whole_shaped f (line_at (start text)) (line_shaped (start text)) p.0 (spelt_of text f p.1.0)
+written_shaped text f p =
+    whole_shaped f (line_at (start text)) (line_shaped (start text)) (answer_is_read text (Ok f) p)
+        (spelt_of text f p.spelt)
 
 pub written_few : (text : List ℕ) (f : Formula) → written text (Ok f) → parts_of f ≤ length text
-written_few text f p = few_parts text f p.1.0
+written_few text f p = few_parts text f p.spelt

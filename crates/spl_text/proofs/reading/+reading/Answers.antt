@@ -1,5 +1,5 @@
 use Rattle.std.proofs.Common.{sym, subst, arith}
-use Rattle.spl_text.specs.Answer.{Says}
+use Rattle.spl_text.specs.Reader.{Says}
 use Rattle.spl_text.proofs.Readers.{formula_step}
 use Rattle.spl_text.proofs.reading.+reading.Goals as goal
 
