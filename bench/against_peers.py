@@ -3,9 +3,11 @@
 nanoseconds, and the ratio to the first peer that is there. It judges nothing.
 
     bench/against_peers.py [SIZE ..]
+    bench/against_peers.py --markdown [SIZE ..]     at the end also tables of ratios for docs/SPEED.md, with machine, day and compilers
 
 A peer that is not installed is skipped with a word. Each time is the least of some rounds in which all programs of a row run in turn.
 """
+import datetime
 import os
 import shutil
 import subprocess
@@ -14,7 +16,8 @@ import tempfile
 
 HERE = os.path.dirname(os.path.abspath(__file__))
 SPIRAL, FAST = (subprocess.check_output([f"{HERE}/../bin/build", name], text=True).strip() for name in ("spiral", "spiral_fast"))
-SIZES = [int(size) for size in sys.argv[1:]] or [64, 1024, 4096, 65536]
+MARKDOWN = "--markdown" in sys.argv
+SIZES = [int(size) for size in sys.argv[1:] if size != "--markdown"] or [64, 1024, 4096, 65536]
 sys.path.insert(0, f"{HERE}/../examples")
 
 from choose import roots_of  # noqa: E402
@@ -68,6 +71,8 @@ def flint_flags():
 class Race:
     def __init__(self, folder):
         self.folder, self.entries, self.skipped = folder, [], set()
+        # of each modulus a row for each size: the ratios of the texts by their names
+        self.tables = {}
 
     def skip(self, word):
         if word not in self.skipped:
@@ -98,17 +103,30 @@ class Race:
         elif subprocess.run([program, *words], capture_output=True).returncode == 0:
             self.entries.append((name, [program, *words]))
 
-    def run(self, title):
+    def run(self, size, modulus):
         least = {}
         for _ in range(ROUNDS):
             for name, words in self.entries:
                 least[name] = min(least.get(name, 1e300), float(output(words)))
         first = next((name for name, _ in self.entries if name in ("NTL", "textbook")), self.entries[0][0])
-        print(f"{title}, as many times {first}'s {least[first]:.0f} ns:")
+        print(f"{size}, {modulus}, as many times {first}'s {least[first]:.0f} ns:")
         for name, time in least.items():
             print(f"  {name}: {time:.0f} ns, {time / least[first]:.2f}")
         sys.stdout.flush()
         self.entries = []
+        self.tables.setdefault((modulus, first), {})[size] = {name: time / least[first] for name, time in least.items() if name != first}
+
+    def markdown(self):
+        """The ratios as tables, each under a line with the machine, the compilers and the day."""
+        with open("/proc/cpuinfo") as file:
+            machine = next((line.split(":", 1)[1].strip() for line in file if line.startswith("model name")), "unknown")
+        compilers = ", ".join(output([it, "--version"]).splitlines()[0] for it in ("clang", "gcc") if shutil.which(it))
+        for (modulus, first), rows in self.tables.items():
+            names = list(dict.fromkeys(name for row in rows.values() for name in row))
+            print(f"\n{modulus}: {machine}; {compilers}; {datetime.date.today():%d %B %Y}; the least of {ROUNDS} runs; {first} takes 1.\n")
+            print("\n".join([f"| size | {' | '.join(names)} |", "|---" * (len(names) + 1) + "|"]))
+            for size, row in rows.items():
+                print(f"| {size} | {' | '.join(f'{row[name]:.2f}' if name in row else '' for name in names)} |")
 
 
 def fast_text(request, *words):
@@ -150,7 +168,7 @@ def raced(race, size, title, primes, lanes, unroll):
         laned = fast_text(f"{request} unroll {unroll}", "--lanes", str(lanes), *words)
         race.text(f"fast, lanes from loops {' '.join(words)}, clang", "clang", laned, *NATIVE)
     race.text("specified, gcc", "gcc", output([SPIRAL, "c"], request + "\n"), "-O2")
-    race.run(f"{size}, {title}")
+    race.run(size, title)
 
 
 def main():
@@ -162,6 +180,8 @@ def main():
                     raced(race, size, title, primes, lanes, unroll)
                 else:
                     race.skip(f"{size} points of the {title} have no root")
+        if MARKDOWN:
+            race.markdown()
 
 
 if __name__ == "__main__":

@@ -2,8 +2,8 @@
 """Counts what a reader has to read to know what a clause says: the lines of all definitions in specs/ that it cites, and of those that
 these cite in turn, down to the standard library and to the types of the code, which are named and not counted.
 
-    checks/cone.py                                           compares the table of docs/PROVED.md with what is counted; status 1 where they differ
-    checks/cone.py --write                                   writes the table into the page
+    checks/cone.py                                           compares the tables of docs/PROVED.md with what is counted; status 1 where they differ
+    checks/cone.py --write                                   writes the tables into the page
     checks/cone.py CRATE FUNCTION.. [--cut MODULE.NAME..] [--all]
 
 A root is a public function with its contract. What is cut stands as a word that is not opened. --all also prints each definition's lines.
@@ -18,8 +18,7 @@ import sys
 
 TOP = pathlib.Path(__file__).resolve().parent.parent
 PAGE = TOP / "docs" / "PROVED.md"
-BEGIN = "<!-- the table of commands, written by checks/cone.py -->"
-END = "<!-- the end of the table of commands -->"
+MARKS = "<!-- the table of {}, written by checks/cone.py -->", "<!-- the end of the table of {} -->"
 # The laws of spiral_main on the whole program and on each command. `AccountsFor` and `IsOutcome` link them to the program's clause,
 # and are not opened.
 COMMANDS = [
@@ -45,13 +44,8 @@ COMMANDS = [
 # The calls that the two programs make, whose clauses have all this.
 PROGRAMS = [("the program `spiral`", "spiral_main", "spiral_run"), ("the program `spiral-fast`", "fast_main", "fast_run")]
 LINK = {"Outcome.IsOutcome", "Outcome.AccountsFor"}
-# A law on good programs is read with that on right calls, which opens the words and the line (`right_lines_are_ordered` links it to
-# the law on answers), and with that on answers, which opens the text of a program.
-CALLS = LINK | {
-    "CommandLine.Names", "Asked.AsksOrder", "Asked.AsksSchedule", "Asked.AsksModulus", "Asked.AsksCode",
-    "RightFront.IsRightLine", "RightFront.IsRightConvLine", "RightFront.IsRightFormulaLine",
-    "Listing.listing_of", "CText.c_text_of",
-}
+# The clauses `right` and `formulas` of `spiral_run`.
+THEOREM = [("spiral_main", "Theorem", "IsRightRun"), ("spiral_main", "FormulaTheorem", "IsRightFormulaRun")]
 # The modules that a crate passes on by `pub use` in specs/Lib.antt or in the file of a folder, and where they stand.
 PASSED_ON = {}
 
@@ -179,33 +173,58 @@ def counts(crate, functions, cut, definitions, brought):
     return found
 
 
-def table():
-    """The text between the marks of the page."""
-    definitions, brought = all_definitions()
+def size_of(keys, definitions):
+    return f"{sum(len(definitions[key]) for key in keys):,}"
 
+
+def table_of_commands(definitions, brought):
     def lines(crate, function, cut):
-        keys, _ = counts(crate, [function], cut, definitions, brought)[function]
-        return f"{sum(len(definitions[key]) for key in keys):,}"
+        return size_of(counts(crate, [function], cut, definitions, brought)[function][0], definitions)
 
-    rows = ["", "| command | law or call | lines to read |", "| --- | --- | --- |"]
+    rows = ["| | law or clause | lines to read | with nothing unopened |", "| --- | --- | --- | --- |"]
+    theorem = size_of(cone(THEOREM, set(), definitions, brought)[0], definitions)
+    rows.append(f"| the theorem | `right` and `formulas` of `spiral_run` | {theorem} | {theorem} |")
     for command, laws in COMMANDS:
         for law in laws:
-            cut = set() if law == "calls_have_one_status" else CALLS if law.endswith(("_is_good", "_is_lean")) else LINK
-            rows.append(f"| {command} | `{law}` | {lines('spiral_main', law, cut)} |")
+            linked = "" if law == "calls_have_one_status" else lines("spiral_main", law, LINK)
+            rows.append(f"| {command} | `{law}` | {linked} | {lines('spiral_main', law, set())} |")
     for program, crate, call in PROGRAMS:
-        rows.append(f"| {program} | `{call}` | {lines(crate, call, set())} |")
-    return "\n".join(rows + ["", ""])
+        rows.append(f"| {program} | all clauses of `{call}` | | {lines(crate, call, set())} |")
+    return rows
+
+
+def table_of_definitions(definitions, brought):
+    """Of each crate the files that the theorem opens, those that all clauses of `spiral_run` open besides, those of `fast_run`, and how many
+    files the crate has."""
+    opened = [cone(THEOREM, set(), definitions, brought)[0]]
+    opened += [counts(crate, [call], set(), definitions, brought)[call][0] for _, crate, call in PROGRAMS]
+    files = [{key[:2] for key in keys} for keys in opened]
+    first = [files[0], files[1] - files[0], files[2] - files[1] - files[0]]
+    rows = ["| crate | the theorem | all of `spiral_run` | `fast_run` | files |", "| --- | --- | --- | --- | --- |"]
+    for crate in crates_in_order():
+        own = [module for home, module in sorted({key[:2] for key in definitions}) if home == crate]
+        cells = [", ".join(module.replace(".", "/") for module in own if (crate, module) in some) for some in first]
+        if own:
+            rows.append(f"| {crate} | {' | '.join(cells)} | {len(own)} |")
+    return rows + [f"| all | {' | '.join(f'{len(some)} files' for some in first)} | {len({key[:2] for key in definitions})} |"]
+
+
+def crates_in_order():
+    return [line.split(":")[0].split()[0] for line in open("crates.txt") if line.strip() and not line.startswith("#")]
 
 
 def page(write):
-    text = PAGE.read_text()
-    before, rest = text.split(BEGIN)
-    told, after = rest.split(END)
-    now = table()
+    text = was = PAGE.read_text()
+    definitions, brought = all_definitions()
+    for name, table in (("commands", table_of_commands), ("definitions", table_of_definitions)):
+        begin, end = (mark.format(name) for mark in MARKS)
+        before, rest = text.split(begin)
+        _, after = rest.split(end)
+        text = "\n".join([before + begin, "", *table(definitions, brought), "", end + after])
     if write:
-        PAGE.write_text(before + BEGIN + now + END + after)
-    elif told != now:
-        sys.exit("docs/PROVED.md: the table of commands is not what checks/cone.py counts; checks/cone.py --write")
+        PAGE.write_text(text)
+    elif text != was:
+        sys.exit("docs/PROVED.md: a table is not what checks/cone.py counts; checks/cone.py --write mends it")
 
 
 def main(crate, functions, cut, whole):

@@ -1,16 +1,16 @@
 #!/usr/bin/env bash
-# Runs the commands of docs/GUIDE.md and compares what they answer with what the guide says, letter for letter.
-# usage: guide.sh [--write] [GUIDE.md]     --write puts the answers into the guide
+# Runs the commands of a page and compares what they answer with what the page says, letter for letter.
+# usage: guide.sh [--write] [PAGE.md]     --write puts the answers into the page, which is docs/GUIDE.md if no other is named
 #
 # In a block ```console a line `$ COMMAND` is a command, lines `> ..` after it go on with it, and what follows up to
 # the next command is its answer: standard output and standard error. All run in one shell, in an empty folder with
 # examples/ in it. Blocks of other names are not run; a block ```console if TOOL is run where the command TOOL is there.
-# The pictures that the commands leave are those beside the guide. README.md may stand for the guide, too.
+# The pictures that the commands leave are those beside the page.
 set -uo pipefail
 top=$(cd "$(dirname "$0")/.." && pwd)
 write=
 [ "${1:-}" = --write ] && write=yes && shift
-guide=$(readlink -f "${1:-$top/docs/GUIDE.md}")
+page=$(readlink -f "${1:-$top/docs/GUIDE.md}")
 program=$("$top/bin/build" spiral) && fast=$("$top/bin/build" spiral_fast) || exit 1
 work=$(mktemp -d)
 trap 'rm -rf "$work"' EXIT
@@ -67,9 +67,9 @@ while IFS= read -r line <&3; do
     fi
   fi
   echo "$line"
-done 3<"$guide" >"$work/guide"
+done 3<"$page" >"$work/page"
 
-pictures=$(dirname "$guide")/pictures
+pictures=$(dirname "$page")/pictures
 for picture in *.svg; do
   [ -e "$picture" ] || continue
   if [ -n "$write" ]; then
@@ -81,9 +81,9 @@ for picture in *.svg; do
 done
 
 if [ -n "$write" ]; then
-  cp "$work/guide" "$guide"
-elif ! diff -u "$guide" "$work/guide"; then
-  echo "guide: the guide and the answers differ"
+  cp "$work/page" "$page"
+elif ! diff -u "$page" "$work/page"; then
+  echo "guide: ${page##*/} and the answers differ"
   exit 1
 fi
-echo "guide: $commands commands answered as written"
+echo "guide: ${page##*/}: $commands commands answered as written"

@@ -1,5 +1,5 @@
 #!/usr/bin/env python3
-"""Compares the limits of a request's fields that README.md tells its readers with the table of request_text/specs/Limits, by which a request
+"""Compares the limits of a request's fields that docs/REFERENCE.md has with the table of request_text/specs/Limits, by which a request
 is judged, and what stands in a field that is left out with request_text/specs/Line. Status 1 where they differ.
 
     checks/limits.py
@@ -11,7 +11,7 @@ import sys
 
 TOP = pathlib.Path(__file__).resolve().parent.parent
 SPECS = TOP / "crates" / "request_text" / "specs"
-# The word of README's table for each field that has limits of its own.
+# The word of the page's table for each field that has limits of its own.
 FIELDS = {"N": "Size", "mod M": "Mod", "procs P": "Procs", "line L": "Line", "lanes V": "Lanes", "unroll U": "Unroll", "budget B": "Budget", "weight K": "Weight"}
 SIZE = re.compile(r"^max_size = (\d+)$", re.M)
 
@@ -33,8 +33,8 @@ def table():
 
 
 def page():
-    """The same of README's table."""
-    for words, limits in re.findall(r"^\| (`?[\w ,`]+) \| [^|]* \| ([^|]*) \|$", (TOP / "README.md").read_text(encoding="utf-8"), re.M):
+    """The same of the page's table."""
+    for words, limits in re.findall(r"^\| (`?[\w ,`]+) \| [^|]* \| ([^|]*) \|$", (TOP / "docs" / "REFERENCE.md").read_text(encoding="utf-8"), re.M):
         for word, limit in zip(words.replace("`", "").split(", "), limits.split("; ")):
             found = re.fullmatch(r"([\d,^ -]+?) to ([\d,^ -]+?)(?: \((.+)\))?", limit.strip())
             if word in FIELDS and found:
@@ -44,7 +44,7 @@ def page():
 
 def main():
     limits, told = table(), dict(page())
-    faults = [f"README.md: {field} from {told.get(field)}, in the table {limits.get(field)}" for field in FIELDS.values() if told.get(field) != limits.get(field)]
+    faults = [f"docs/REFERENCE.md: {field} from {told.get(field)}, in the table {limits.get(field)}" for field in FIELDS.values() if told.get(field) != limits.get(field)]
     print("\n".join(faults) or f"limits.py: {len(told)} fields, as in the table")
     return bool(faults)
 

@@ -82,7 +82,7 @@ def tables(headings):
     edges = sum(len(used) for _, used in crates)
     out = [f"{len(crates)} crates, {edges} uses of one by another, {max(deep.values())} crates in the longest chain."]
     for heading, group in headings:
-        out += ["", f"### {heading}", "", "| crate | depth | stands on | what it is |", "|---|---|---|---|"]
+        out += ["", f"### {heading}", "", "| crate | depth | uses | what it is |", "|---|---|---|---|"]
         for name, used in group:
             direct = [other for other in used if not any(other in below[via] for via in used)]
             out.append(f"| {name} | {deep[name]} | {', '.join(direct)} | {first_sentence(name)} |")
