@@ -8,7 +8,7 @@ use Rattle.matrix_meaning.specs.Parts.{first_of, parts_of, rest_of}
 use Rattle.matrix_meaning.specs.Valid.{IsInRange}
 use Rattle.matrix_meaning.proofs.Parts.{first_at_least_two, parts_by_first, parts_size, rest_at_least_two}
 use Rattle.serde_json.specs.Data.{Items, no_items, item}
-use Rattle.serde_json.specs.Views.{items_view, view}
+use Rattle.serde_json.specs.View.{items_view, view}
 use Rattle.serde_json.specs.declared.value.Value.{Value}
 use Rattle.tree_model.specs.Chosen.{CanDivideWhole, IsWholeLeast}
 use Rattle.tree_model.proofs.ChosenParts.{least_of_parts}

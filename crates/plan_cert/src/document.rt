@@ -1,7 +1,7 @@
 // Certificates as JSON text.
 ghost use Rattle.std.specs.Prelude.{◌≡◌, ℕ, Option, Some, option_map, option_and_then, codes, IfOk, IfSome, IfNone};
 ghost use Rattle.serde_json.specs.Data.{Data};
-ghost use Rattle.serde_json.specs.Views.{view, items_view};
+ghost use Rattle.serde_json.specs.View.{view, items_view};
 ghost use Rattle.plan_cert.specs.Document.{choice_named, number_at, choice_at, has_items, row_of, rows_of, has_number, has_members, is_version_one, is_version_two, has_head, document_rows, IsJson};
 
 use crate::certificate::Row;

@@ -1,6 +1,6 @@
 // What is to be said of a certificate.
 ghost use Rattle.std.specs.Prelude.{◌≡◌, ◌≢◌, ℕ, ◌+◌, ◌*◌, ◌^◌, ◌<◌, ◌≤◌, IfOk, []};
-ghost use Rattle.serde_json.specs.Views.{items_view, view};
+ghost use Rattle.serde_json.specs.View.{items_view, view};
 ghost use Rattle.matrix_meaning.specs.Parts.{parts_of};
 ghost use Rattle.tree_model.specs.Chosen.{CanDivideWhole, IsWholeLeast};
 ghost use Rattle.plan_cert.specs.Certificate.{IsSmall};

@@ -3,7 +3,7 @@ ghost use Rattle.std.specs.Prelude.{◌≡◌, ◌∷◌, ℕ, List, IfOk};
 ghost use Rattle.matrix_meaning.specs.Parts.{parts_of};
 ghost use Rattle.tree_model.specs.Chosen.{CanDivideWhole, IsWholeLeast};
 ghost use Rattle.serde_json.specs.Data.{array};
-ghost use Rattle.serde_json.specs.Views.{items_view, view};
+ghost use Rattle.serde_json.specs.View.{items_view, view};
 ghost use Rattle.plan_cert.specs.declared.verdict.Verdict.TheVariants.{Least};
 ghost use Rattle.plan_cert.specs.Verdict.{IsVerdict};
 ghost use Rattle.plan_cert.specs.Table.{choice_name, row_data, rows_data, table_data, AreTables, IsLineOf, IsPlain, IsTableOf, IsTableText, IsWholeTable};

@@ -1,5 +1,5 @@
 use Rattle.std.proofs.Common.{IfSome, Option, subst}
-use Rattle.serde_json.specs.Views.{view}
+use Rattle.serde_json.specs.View.{view}
 use Rattle.serde_json.specs.declared.value.Value.{Value}
 use Rattle.plan_cert.specs.Document.{IsJson}
 use Rattle.plan_cert.specs.Verdict.{IsWholeVerdict}

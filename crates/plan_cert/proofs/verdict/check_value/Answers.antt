@@ -1,6 +1,6 @@
 use Rattle.std.proofs.Common.{◌≡◌, Global, Some, Vec, ap, option_map, subst, sym, ◌∙◌}
 use Rattle.matrix_meaning.specs.declared.Request.{Request}
-use Rattle.serde_json.specs.Views.{view}
+use Rattle.serde_json.specs.View.{view}
 use Rattle.tree_model.specs.Chosen.{IsWholeLeast}
 use Rattle.plan_cert.specs.declared.certificate.Row.{Row}
 use Rattle.plan_cert.specs.Certificate.{HasRows}

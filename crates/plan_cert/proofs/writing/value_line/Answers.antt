@@ -1,4 +1,4 @@
-use Rattle.serde_json.specs.Views.{view}
+use Rattle.serde_json.specs.View.{view}
 use Rattle.plan_cert.proofs.Texts.{line_written}
 use Rattle.plan_cert.proofs.writing.value_line.Goals as goal
 
