@@ -4,6 +4,7 @@ pub mod Generators
 pub mod Good
 pub mod OneAnswer
 pub mod OnePlan
+pub mod OneSide
 pub mod OneWork
 pub mod RightCalls
 pub mod RightFront

@@ -1,5 +1,5 @@
 // The top call.
-ghost use Rattle.std.specs.Prelude.{◌≡◌, [], map, string_bytes};
+ghost use Rattle.std.specs.Prelude.{◌≡◌, ◌⊎◌, [], map, string_bytes};
 ghost use Rattle.std.specs.Io.KnownBytes.{Appends};
 ghost use Rattle.io_edge.specs.Told.{IsOver};
 ghost use Rattle.io_edge.specs.Faults.{Reports};
@@ -110,6 +110,10 @@ pub fn spiral_run<I: Source, O: Sink, E: Sink>(
     ensures read { Reports (I.faults input.old) (I.faults input.new) (result ≡ Status.ReadFault) }
     ensures write { Reports (O.faults output.old) (O.faults output.new)
         (result ≡ Status.WriteFault) }
+    // One side fails at most. Since each may fail whenever it is asked, none is asked after a fault: neither that side nor
+    // the other.
+    ensures one_side { (I.faults input.new ≡ I.faults input.old)
+        ⊎ (O.faults output.new ≡ O.faults output.old) }
     // The words are judged before the input is read.
     ensures after { result ≡ Status.ReadFault → AskForCommand (map string_bytes words.now.items) }
     ensures words { AreJudged (map string_bytes words.now.items) result }

@@ -1,5 +1,7 @@
 use Rattle.std.proofs.Common.{Global, map, string_bytes}
+use Rattle.commands.specs.Input.Stage.{status_of}
 use Rattle.spiral_main.specs.Outcome.{AccountsFor}
+use Rattle.spiral_main.proofs.OneSide.{one_side_fails}
 use Rattle.spiral_main.proofs.FormulaTheorem.{formula_run_is_right}
 use Rattle.spiral_main.proofs.Theorem.{any_run_is_right}
 use Rattle.spiral_main.proofs.run.spiral_run.Goals as goal
@@ -12,6 +14,11 @@ returns-clause-words g c = rw c.ending-status.ensures c.work.ensures.words
 
 pub returns-clause-told : goal.returns-clause-told
 returns-clause-told g c = rw c.ending-status.ensures c.work.ensures.told
+
+pub returns-clause-one_side : goal.returns-clause-one_side
+returns-clause-one_side g c =
+    one_side_fails (status_of c.work.result) (g.I.Source.faults c.args.input.now) (g.I.Source.faults c.work.new.input)
+    (g.O.Sink.faults c.args.output.now) (g.O.Sink.faults c.work.new.output) c.work.ensures.read c.work.ensures.write
 
 pub returns-clause-right : goal.returns-clause-right
 returns-clause-right g c = λ well.
