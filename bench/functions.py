@@ -46,13 +46,13 @@ def function_program(folder, compiler, text, header):
     write(f"{folder}/forward.c", text)
     write(f"{folder}/forward.h", header)
     word = re.search(r"void forward\((uint\d+_t)", header)[1]
-    sources = [f"{HERE}/race_function.c", f"{folder}/forward.c"]
+    sources = [f"{TOP}/examples/tune/time.c", f"{folder}/forward.c"]
     output([*compiler, "-w", f"-DWORD={word}", f"-I{folder}", *sources, "-o", f"{folder}/function"])
     return f"{folder}/function"
 
 
 def race(name, programs):
-    times = [[float(output([program])) for program in programs] for _ in range(ROUNDS)]
+    times = [[float(output([program]).split()[0]) for program in programs] for _ in range(ROUNDS)]
     text, function = (min(column) for column in zip(*times))
     print(f"{name}: text {text:.0f} ns, function {function:.0f} ns, {function / text:.2f}")
 

@@ -3,7 +3,7 @@
  *
  * Compile with -DTEXT='"file.c"', -DSIZE=N, -DPROCS=P and -DPHASES='phase0, phase1' as the text has them.
  */
-#include "race.h"
+#include "../examples/tune/least.h"
 
 #include TEXT
 

@@ -1,9 +1,9 @@
 /*
- * The time of a function to link on one vector, beside race_text.c, which has that of a text with its own arrays.
+ * The time of a function to link on one vector: prints its least nanoseconds and the sum of its results.
  *
  * Compile with the folder of forward.h in the path of headers, -DWORD=T as the type of its words, and forward.c.
  */
-#include "race.h"
+#include "least.h"
 
 #include "forward.h"
 
@@ -14,5 +14,8 @@ int main(void) {
     for (size_t k = 0; k < FORWARD_SIZE; k++)
         in[k] = (WORD)((k * k + 1) % FORWARD_MODULUS);
     LEAST(least, forward(out, in, work));
-    printf("%.1f\n", least);
+    uint64_t sum = 0;
+    for (size_t k = 0; k < FORWARD_SIZE; k++)
+        sum += out[k] * (2 * k + 1);
+    printf("%.1f %llu\n", least, (unsigned long long)sum);
 }
