@@ -30,9 +30,10 @@ use Rattle.fast_main.specs.Options.Asked.{together}
 use Rattle.fast_main.specs.Options.CommandLine.{fast_app}
 use Rattle.fast_main.specs.Outcome.{IsAnswer, IsOutcome, IsOutcomeOfListing, IsTranslated}
 use Rattle.fast_main.specs.Status.{listing_limit, status_of_check}
-use Rattle.fast_main.specs.Translation.{AreSoundWords, KeepsInput, fast_text, wanted_words, writer_in}
+use Rattle.fast_main.specs.Translation.{AreSoundWords, KeepsInput, fast_text, takes_leftovers, wanted_words, writer_in}
 use Rattle.fast_main.specs.Words.{bits_of}
-use Rattle.fast_main.proofs.Faithful.{sound_words}
+use Rattle.fast_text.proofs.TextBack.{text_is_read}
+use Rattle.fast_main.proofs.Faithful.{sound_words, spelt_words}
 
 -- ---- lanes
 
@@ -89,14 +90,18 @@ module _ (wanted : Asked) (count : IsLaneCount wanted.lanes) (bytes : List ℕ) 
       allows (size_for wanted.size p) p.modulus ≡ true → KeepsInput wanted p →
       IsTranslated wanted bytes (fast_text wanted p)
   translated p listing passes allowed keeps =
+      let size = size_for wanted.size p in
       record {
         program = p;
         listing = listing;
         passes = passes;
         allowed = allowed;
-        sound = passed_sound (size_for wanted.size p) wanted.lanes p count listing.0 passes allowed;
+        sound = passed_sound size wanted.lanes p count listing.0 passes allowed;
         keeps = keeps;
         says = refl;
+        read_back = text_is_read (wanted_words wanted p)
+            (spelt_words size wanted.lanes p count listing.0 (passed_fits p listing.0 passes) passes.apart allowed)
+            (takes_leftovers size wanted.lanes p) wanted.form;
       }
 
   by_writer : (p : PlainProgram) → is_listing bytes p → PassesCheck action_limit p →

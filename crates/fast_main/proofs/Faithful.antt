@@ -47,21 +47,29 @@ use Rattle.fast_main.specs.Options.Asked.{IsLaneCount}
 use Rattle.fast_main.specs.Translation.{has_cheap_products, on_several, on_lanes, in_blocks, prepared, words_for}
 use Rattle.fast_main.specs.Translation.{AreSoundWords, HasWholeLines, IsFaithful, IsOrderFree}
 use Rattle.fast_main.proofs.Laned.{laned_by}
+use Rattle.fast_main.proofs.Limited.{coalesced_within, factored_within, fused_within, interchanged_within, laned_within}
+use Rattle.fast_main.proofs.Limited.{renumbered_within}
+use Rattle.fast_main.proofs.Rerouted.{in_place_spells}
+use Rattle.fast_text.specs.WordTexts.{IsSpellable}
+use Rattle.fast_text.proofs.Spelling.{quickened_spells, width_of_words}
 
 -- ---- the prepared program
 
--- q has the lines of p; where p fits and is apart, so does q, of the same numbers, and it leaves what p leaves
+-- q has the lines of p, and is within limits where p is; where p fits and is apart, so does q, of the same numbers, and
+-- it leaves what p leaves
 record Keeps (q p : PlainProgram) : Type 0 where
   line : q.line ≡ p.line
+  within : IsWithinLimits p → IsWithinLimits q
   law : PlainFits p → ((phase : ℕ) → IsApart (plain_code p) phase) → IsInPlaceOf q p
 
 keeps_itself : (p : PlainProgram) → Keeps p p
-keeps_itself p = record { line = refl; law = itself p }
+keeps_itself p = record { line = refl; within = λ h. h; law = itself p }
 
 then_keeps : (r q p : PlainProgram) → Keeps r q → Keeps q p → Keeps r p
 then_keeps r q p one two =
     record {
       line = one.line ∙ two.line;
+      within = λ h. one.within (two.within h);
       law = λ fits apart. let first = two.law fits apart in after r q p (one.law first.fits first.apart) first;
     }
 
@@ -75,6 +83,7 @@ interchanged_is : (p : PlainProgram) → Keeps (interchanged p) p
 interchanged_is p =
     record {
       line = line_if p (list_all (are_nests p.lanes) p.phases) (map (interchanged_body p.lanes) p.phases);
+      within = interchanged_within p;
       law = interchanged_program p;
     }
 
@@ -84,6 +93,7 @@ renumbered_is p =
       line = line
           (not (list_all (are_in_order p.lanes 0) p.phases) && nat_lt (registers_for p.lanes p.phases) (2 ^ 20))
           (numbered_phases p.lanes p.phases);
+      within = renumbered_within p;
       law = renumbered_leaves_the_same p;
     }
   where
@@ -112,6 +122,7 @@ laned_is v p lanes =
     let frame = laned_frame v p (can_be_laned v p) in
     record {
       line = frame.line;
+      within = λ h. laned_within p h v lanes;
       law = λ fits apart.
           let law = laned_leaves_the_same v p lanes fits apart in
           record { size = frame.size; modulus = frame.modulus; fits = law.fits; apart = law.apart; same = law.same };
@@ -122,6 +133,7 @@ coalesced_is p =
     let same = coalesced_does_the_same p in
     record {
       line = refl;
+      within = coalesced_within p;
       law = λ fits apart. record {
         size = refl;
         modulus = refl;
@@ -158,6 +170,7 @@ in_blocks_is lanes p count =
     then_keeps (in_blocks lanes p) q p
     (record {
       line = line_if q (may_be_fused large_size q) (fused_phases q.lanes q.phases);
+      within = λ h. fused_within q h large_size;
       law = fused_leaves_the_same large_size q;
     })
     (on_lanes_is lanes p count)
@@ -178,6 +191,7 @@ factored_is : (p : PlainProgram) → Keeps (factored large_table p) p
 factored_is p =
     record {
       line = factored_line large_table (length p.tables) 0 p;
+      within = factored_within large_table (length p.tables) 0 p;
       law = factored_leaves_the_same large_table p;
     }
 
@@ -263,6 +277,21 @@ sound_words size lanes p count limits fits apart allowed =
           (long ∙ sym law.size)
           ∙ faithful x turns orders (le_of_eq (sym long)) low;
     }
+
+-- and they are read back from their text
+pub spelt_words : (size : WordSize) (lanes : ℕ) (p : PlainProgram) → IsLaneCount lanes → IsWithinLimits p →
+    PlainFits p → ((phase : ℕ) → IsApart (plain_code p) phase) → allows size p.modulus ≡ true →
+    IsSpellable (words_for size lanes p)
+spelt_words size lanes p count limits fits apart allowed =
+    let q = prepared size lanes p in
+    let keeps = prepared_is size lanes p count in
+    let within = keeps.within limits in
+    let range = within.header.of_modulus in
+    let allows_q = ap (allows size) (keeps.law fits apart).modulus ∙ allowed in
+    let lazy = lazy_for size q.modulus q.lanes range.0 range.1 allows_q in
+    let width = width_of_words size q.modulus q.lanes in
+    in_place_spells q (fast_words size q)
+    (quickened_spells (laziness_for size q.modulus q.lanes) q within lazy width.0 width.1)
 
 -- words that leave what the program leaves, whatever the order of turns, leave the same in all of them
 pub order_free : (size : WordSize) (lanes : ℕ) (p : PlainProgram) → AreSoundWords size lanes p → IsOrderFree size lanes p

@@ -1,4 +1,5 @@
 pub mod OptionLemmas
+pub mod Limited
 pub mod Faithful
 pub mod Existence
 pub mod Laned

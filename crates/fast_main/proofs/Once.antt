@@ -17,7 +17,10 @@ use Rattle.fast_main.specs.Outcome.{IsUnsound, IsTooWide, IsTranslated, IsRefuse
 use Rattle.fast_main.specs.Outcome.{IsOutcome}
 use Rattle.fast_main.specs.Words.{bits_of}
 use Rattle.fast_main.specs.Status.{status_of_check}
-use Rattle.fast_main.specs.Translation.{IsWritten, KeepsInput, fast_text}
+use Rattle.fast_main.specs.Outcome.{TextsAreOfOneProgram}
+use Rattle.fast_main.specs.Translation.{IsWritten, KeepsInput, fast_text, takes_leftovers, wanted_words}
+use Rattle.fast_text.specs.WordTexts.{IsReadAs}
+use Rattle.fast_text.proofs.TextBack.{read_once}
 use Rattle.fast_main.specs.Options.Asked.{Asked, asked}
 use Rattle.data_stream.specs.Parts.Part.{first_part}
 use Rattle.word_code.specs.declared.laziness.WordSize.{WordSize}
@@ -138,6 +141,18 @@ refused_or_translated wanted bytes text a (inr (inr (inr p))) q =
 translated_once : (wanted : Asked) (bytes s t : List ℕ) → IsTranslated wanted bytes s → IsTranslated wanted bytes t →
     s ≡ t
 translated_once wanted bytes s t p q = p.says ∙ ap (fast_text wanted) (one_program bytes p.program q.program p.listing q.listing) ∙ sym q.says
+
+-- Texts
+
+-- what they say of leftovers
+abbrev told_of : Asked → PlainProgram → Bool
+told_of wanted p = takes_leftovers (size_for wanted.size p) wanted.lanes p
+
+pub one_program_spelt : TextsAreOfOneProgram
+one_program_spelt a b bytes others text has same p q =
+    (read_once a.form has text (told_of a p.program) (told_of b q.program) (wanted_words a p.program)
+    (wanted_words b q.program) p.read_back
+    (subst (λ form. IsReadAs form (told_of b q.program) text (wanted_words b q.program)) (sym same) q.read_back)).1
 
 abbrev Same : Status → Status → List ℕ → List ℕ → Type 0
 Same a b s t = (a ≡ b) × (s ≡ t)

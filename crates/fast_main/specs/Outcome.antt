@@ -16,7 +16,8 @@ use Rattle.fast_main.specs.declared.status.Status.{Status}
 use Rattle.fast_main.specs.declared.status.Status.TheVariants.{Success, Usage, ListingSyntax, WideModulus, ReadFault}
 use Rattle.fast_main.specs.declared.status.Status.TheVariants.{WriteFault, NoMemory, TooLong}
 use Rattle.fast_main.specs.Status.{listing_limit, status_of_check}
-use Rattle.fast_main.specs.Translation.{fast_text, AreSoundWords, IsWritten, KeepsInput}
+use Rattle.fast_text.specs.WordTexts.{HasStatements}
+use Rattle.fast_main.specs.Translation.{fast_text, wanted_words, AreSoundWords, IsReadBack, IsWritten, KeepsInput}
 use Rattle.fast_main.specs.Words.{bits_of}
 use Rattle.fast_main.specs.Options.Asked.{Asked, asked}
 use Rattle.data_stream.specs.Parts.Part.{first_part, HasPartEnded, IsInPart}
@@ -53,7 +54,8 @@ pub record IsWriting (wanted : Asked) (bytes : List ℕ) (status : Status) : Typ
   pub written : IsWritten wanted program status
 
 -- they are that of a program that passes the check, and the text is the one of it that is asked for; it spells words
--- of the size, which fit, are apart and leave what the program leaves, and a function's leave its input as it is
+-- of the size, which fit, are apart and leave what the program leaves, and a function's leave its input as it is. By an
+-- independent reader of such texts, it is these words
 pub record IsTranslated (wanted : Asked) (bytes text : List ℕ) : Type 0 where
   pub program : PlainProgram
   pub listing : is_listing bytes program
@@ -62,6 +64,14 @@ pub record IsTranslated (wanted : Asked) (bytes text : List ℕ) : Type 0 where
   pub sound : AreSoundWords (size_for wanted.size program) wanted.lanes program
   pub keeps : KeepsInput wanted program
   pub says : text ≡ fast_text wanted program
+  pub read_back : IsReadBack wanted program text
+
+-- two texts of one form that are the same, of whatever words and listings, are of the same program on words
+abbrev pub TextsAreOfOneProgram : Type 0
+TextsAreOfOneProgram =
+    (a b : Asked) (bytes others text : List ℕ) → HasStatements a.form → a.form ≡ b.form →
+    (p : IsTranslated a bytes text) (q : IsTranslated b others text) →
+    wanted_words a p.program ≡ wanted_words b q.program
 
 -- why the bytes of a listing have no text
 abbrev pub IsRefused : Asked → List ℕ → Status → Type 0

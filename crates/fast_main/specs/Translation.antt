@@ -26,6 +26,7 @@ use Rattle.word_code.specs.WordMachine.{under, word_results}
 use Rattle.word_code.specs.WordProgram.{PlainWordProgram, word_code}
 use Rattle.fast_text.specs.TextForm.{TextForm, with_arrays, named_function, named_header}
 use Rattle.fast_text.specs.WordText.{words_text}
+use Rattle.fast_text.specs.WordTexts.{IsReadAs}
 use Rattle.fast_main.specs.declared.status.Status.{Status}
 use Rattle.fast_main.specs.declared.status.Status.TheVariants.{InputWritten}
 
@@ -73,6 +74,12 @@ wanted_words wanted p = words_for (size_for wanted.size p) wanted.lanes p
 abbrev pub fast_text : Asked → PlainProgram → List ℕ
 fast_text wanted p =
     words_text wanted.form (takes_leftovers (size_for wanted.size p) wanted.lanes p) (wanted_words wanted p)
+
+-- the text is read as the program on words that is asked for, and as saying what arrays have to hold. A header has no
+-- statements
+abbrev pub IsReadBack : Asked → PlainProgram → List ℕ → Type 0
+IsReadBack wanted p text =
+    IsReadAs wanted.form (takes_leftovers (size_for wanted.size p) wanted.lanes p) text (wanted_words wanted p)
 
 -- the phase that stores into the input, where that is the caller's
 abbrev pub writer_in : TextForm → PlainWordProgram → Option ℕ

@@ -14,7 +14,7 @@ ghost use Rattle.fast_main.specs.Options.Asked.{Asked, IsLaneCount, asked};
 ghost use Rattle.fast_main.specs.Status.{listing_limit};
 ghost use Rattle.fast_main.specs.Translation.{AreSoundWords, HasWholeLines, IsOrderFree, KeepsInput, fast_text};
 ghost use Rattle.fast_main.specs.declared.status.Status.{Status as SpecStatus};
-ghost use Rattle.fast_main.specs.Outcome.{Accounts, AccountsFor, IsOutcome};
+ghost use Rattle.fast_main.specs.Outcome.{Accounts, AccountsFor, IsOutcome, TextsAreOfOneProgram};
 
 mod options;
 mod prepare;
@@ -63,6 +63,12 @@ pub fn both_ways_of_calling_leave_the_same()
     ensures { (size : SpecWordSize) (lanes : ℕ) (program : PlainProgram) → IsLaneCount lanes
         → IsWithinLimits program → PassesCheck action_limit program → allows size program.modulus ≡ true
         → IsOrderFree size lanes program }
+{}
+
+/// Two calls that ask for one form of text, with statements, and write the same text have spelt the same program on
+/// words.
+pub fn texts_are_of_one_program()
+    ensures { TextsAreOfOneProgram }
 {}
 
 /// Where no size of words is asked for, lines of 8 words have whole lines of 64 bytes.

@@ -13,7 +13,7 @@ ghost use Rattle.fast_main.specs.Outcome.{AreJudged, HasReadListing};
 ghost use Rattle.fast_main.specs.Outcome.{AccountsFor, Notes};
 ghost use Rattle.fast_main.specs.Status.{note_line, status_of};
 ghost use Rattle.fast_main.specs.Options.Asked.{IsLaneCount};
-ghost use Rattle.fast_main.specs.Translation.{writer_in, fast_text, AreSoundWords, IsWritten, KeepsInput};
+ghost use Rattle.fast_main.specs.Translation.{writer_in, fast_text, AreSoundWords, IsReadBack, IsWritten, KeepsInput};
 
 use crate::Status;
 use crate::options::{Options, options_of};
@@ -60,6 +60,8 @@ fn fast_text_of(
     requires size { size ≡ size_for options.size (plain_program program) }
     ensures text { IfOk result
         (λ text. text.items ≡ fast_text (plain_options options.entry) (plain_program program)) }
+    ensures read_back { IfOk result
+        (λ text. IsReadBack (plain_options options.entry) (plain_program program) text.items) }
     ensures keeps { IfOk result
         (λ _. KeepsInput (plain_options options.entry) (plain_program program)) }
     ensures sound { IfOk result

@@ -1,6 +1,5 @@
 pub mod Pieces
 pub mod Nests
-pub mod PlaceBack
 pub mod LineParts
 pub mod LineBack
 pub mod BodyBack

@@ -26,11 +26,10 @@ use Rattle.fast_text.specs.WordText.{addition_text, subtraction_text, negation_t
 use Rattle.fast_text.specs.WordText.{table_product_text, sources_text, targets_text, tile_text, word_op_text}
 use Rattle.fast_text.specs.WordText.{loop_text}
 use Rattle.fast_text.specs.WordTexts.{is_word, is_note_of}
-use Rattle.fast_text.proofs.LineParts.{line_key, value_key, array_back, factor_key, no_entry}
+use Rattle.fast_text.proofs.LineParts.{index_back, line_key, value_key, array_back, factor_key, no_entry}
 use Rattle.fast_text.proofs.LineParts.{shape_open, shape_zero, shape_reduced, shape_load, shape_store, shape_add}
 use Rattle.fast_text.proofs.LineParts.{shape_sub}
 use Rattle.fast_text.proofs.LineParts.{shape_neg, shape_constant, shape_entry, shape_row, shape_tile}
-use Rattle.fast_text.proofs.PlaceBack.{index_back}
 
 module _ (lanes depth : ℕ) where
   -- ---- loops

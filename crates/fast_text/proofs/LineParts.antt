@@ -1,20 +1,23 @@
 -- How lines of a phase begin, and how their texts are put together.
-use Rattle.std.proofs.Common.{◌≡◌, ℕ, ◌<◌, Bool, true, false, eqb, List, [], ◌∷◌, ◌++◌, codes, decimal, Ok, refl}
+use Rattle.std.proofs.Common.{◌≡◌, ℕ, ◌<◌, ◌≤◌, Bool, true, false, eqb, List, [], ◌∷◌, ◌++◌, codes, decimal, Ok, refl}
 use Rattle.std.proofs.Common.{arith}
 use Rattle.std.proofs.Common.{append_assoc, inl, inr}
 use Rattle.std.proofs.lemmas.Bool.{ne_eqb}
+use Rattle.icode.specs.Limits.{is_expr_within}
+use Rattle.icode.specs.Plain.{PlainExpr}
 use Rattle.icode.specs.declared.program.Array.{Array}
 use Rattle.icode.specs.declared.program.Array.TheVariants as arrays
 use Rattle.grammar.specs.Grammar.{one_of}
-use Rattle.grammar.specs.Reading.{Place, placed, one_of_in, one_of_at}
+use Rattle.grammar.specs.Reading.{Place, begins, placed, one_of_in, one_of_at}
 use Rattle.grammar.proofs.Parts.{Anything, one_of_reader}
 use Rattle.grammar.proofs.Whole.{again}
 use Rattle.listing_text.specs.Listing.{array_text}
 use Rattle.listing_text.specs.Reading.{above_all}
-use Rattle.listing_text.proofs.ReadBack.{Back, first_digit}
+use Rattle.listing_text.proofs.ReadBack.{Back, first_digit, goes_on, sum_back}
 use Rattle.fast_text.specs.WordReading.{LineHead, ForHead, EndHead, RegisterHead, StoreHead, TileHead, line_heads}
 use Rattle.fast_text.specs.WordReading.{ValueHead, ZeroHead, LoadHead, AddHead, SubHead, NegHead, MulHead}
-use Rattle.fast_text.specs.WordReading.{ReducedHead}
+use Rattle.fast_text.specs.WordReading.{ReducedHead, index_at}
+use Rattle.fast_text.specs.WordText.{index_text}
 use Rattle.fast_text.specs.WordReading.{value_heads, array_heads, factor_heads, splat_heads}
 
 -- ---- heads
@@ -64,6 +67,14 @@ no_entry n rest far fits =
     let first = first_digit n fits in
     let other : eqb 116 first.digit ≡ false = ne_eqb 116 first.digit (λ same. omega (arith, first.high, same)) in
     rw first.whole (rw other refl)
+
+-- ---- places
+
+-- a place, with the mark after each constant
+pub index_back : (e : PlainExpr) (open_loops : ℕ) → is_expr_within e open_loops ≡ true → open_loops ≤ 64 →
+    (place : Place ℕ) (rest : List ℕ) → place.rest ≡ index_text e ++ rest → begins goes_on rest ≡ false →
+    Back index_at e place rest
+index_back = sum_back (codes "ULL") (λ rest none. refl)
 
 -- ---- shapes
 

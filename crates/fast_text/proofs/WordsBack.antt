@@ -10,14 +10,15 @@ use Rattle.std.proofs.lemmas.List.{length-append}
 use Rattle.icode.specs.Limits.{IsHeaderWithin, is_body_within}
 use Rattle.grammar.specs.Grammar.{one_of}
 use Rattle.grammar.specs.Reading.{Place, and_then, placed, word_in, word_at, number_in, number_at}
-use Rattle.grammar.specs.Reading.{named_number_at, one_of_at}
+use Rattle.grammar.specs.Reading.{one_of_at}
 use Rattle.grammar.proofs.Parts.{Anything, one_of_reader}
 use Rattle.grammar.proofs.Whole.{again}
 use Rattle.listing_text.specs.Drafts.{header_at}
 use Rattle.listing_text.specs.Numbers.{numbered_text}
 use Rattle.listing_text.specs.Reading.{above_all}
 use Rattle.listing_text.specs.Wording.{header_of}
-use Rattle.listing_text.proofs.ReadBack.{Back, then_back, word_back, number_back, named_back}
+use Rattle.listing_text.proofs.OutsideLines.{header_in_front}
+use Rattle.listing_text.proofs.ReadBack.{Back, then_back, word_back, number_back}
 use Rattle.word_code.specs.Bare.{bare_body}
 use Rattle.word_code.specs.WordProgram.{WordBody, PlainWordProgram}
 use Rattle.fast_text.specs.FunctionText.{each_from}
@@ -133,42 +134,12 @@ quotients_are_none (entries ∷ quotients) after none w = (_, refl)
 
 -- ---- the first lines
 
-shape_header : (a b s c m d p e l f v g r end rest : List ℕ) →
-    (a ++ (b ++ s ++ c ++ m ++ d ++ p ++ e ++ l ++ f ++ v ++ g ++ r) ++ end) ++ rest ≡ (a ++ b)
-    ++ (s ++ (c ++ (m ++ (d ++ (p ++ (e ++ (l ++ (f ++ (v ++ (g ++ (r ++ (end ++ rest))))))))))))
-shape_header a b s c m d p e l f v g r end rest = simp append_assoc
-
 pub header_back : (p : PlainWordProgram) →
     IsHeaderWithin p.frame.size p.frame.modulus p.frame.procs p.frame.line p.frame.lanes p.frame.regs →
     (place : Place ℕ) (rest : List ℕ) → place.rest ≡ word_header_text p ++ rest →
     Back (header_at (codes "/* program size ") (codes " */\n")) (header_of p.frame) place rest
 header_back p w place rest e =
-    let h = header_of p.frame in
-    let t7 : List ℕ = codes " */\n" ++ rest in
-    let t6 : List ℕ = codes " regs " ++ (decimal h.regs ++ t7) in
-    let t5 : List ℕ = codes " lanes " ++ (decimal h.lanes ++ t6) in
-    let t4 : List ℕ = codes " line " ++ (decimal h.line ++ t5) in
-    let t3 : List ℕ = codes " procs " ++ (decimal h.procs ++ t4) in
-    let t2 : List ℕ = codes " mod " ++ (decimal h.modulus ++ t3) in
-    let first : place.rest ≡ codes "/* program size " ++ (decimal h.size ++ t2) =
-    e ∙ shape_header (codes "/* ") (codes "program size ") (decimal h.size) (codes " mod ") (decimal h.modulus)
-    (codes " procs ")
-    (decimal h.procs) (codes " line ") (decimal h.line) (codes " lanes ") (decimal h.lanes) (codes " regs ")
-    (decimal h.regs) (codes " */\n") rest in
-    then_back (named_number_at (codes "/* program size ") above_all) _ h.size h place t2 rest
-    (named_back (codes "/* program size ") h.size place t2 (omega (arith, w.of_size.1)) refl first) (λ q1 e1.
-    then_back (named_number_at (codes " mod ") above_all) _ h.modulus h q1 t3 rest
-    (named_back (codes " mod ") h.modulus q1 t3 (omega (arith, w.of_modulus.1)) refl e1) (λ q2 e2.
-    then_back (named_number_at (codes " procs ") above_all) _ h.procs h q2 t4 rest
-    (named_back (codes " procs ") h.procs q2 t4 (omega (arith, w.of_procs.1)) refl e2) (λ q3 e3.
-    then_back (named_number_at (codes " line ") above_all) _ h.line h q3 t5 rest
-    (named_back (codes " line ") h.line q3 t5 (omega (arith, w.of_line.1)) refl e3) (λ q4 e4.
-    then_back (named_number_at (codes " lanes ") above_all) _ h.lanes h q4 t6 rest
-    (named_back (codes " lanes ") h.lanes q4 t6 (omega (arith, w.of_lanes.1)) refl e4) (λ q5 e5.
-    then_back (named_number_at (codes " regs ") above_all) _ h.regs h q5 t7 rest
-    (named_back (codes " regs ") h.regs q5 t7 (omega (arith, w.of_regs)) refl e5) (λ q6 e6.
-    then_back (word_at (codes " */\n")) _ tt h q6 rest rest (word_back (codes " */\n") q6 rest e6)
-    (λ q7 e7. (q7, refl, e7))))))))
+    header_in_front (codes "/* program size ") (codes " */\n") (header_of p.frame) w place rest refl e
 
 shape_sizes : (i m v h d nl r rest : List ℕ) → (i ++ m ++ v ++ (h ++ d ++ nl) ++ r) ++ rest ≡ (i ++ m ++ v)
     ++ (h ++ (d ++ (nl ++ (r ++ rest))))

@@ -4,38 +4,25 @@ use Rattle.std.specs.Prelude.{Result}
 use Rattle.icode.specs.declared.program.Array.{Array}
 use Rattle.icode.specs.declared.program.Array.TheVariants as arrays
 use Rattle.icode.specs.Machine.{whole_lines}
-use Rattle.icode.specs.Plain.{PlainExpr, PlainOp, Sum, Load, Store, Zero, Add, Sub, Neg, MulConst, MulTable, Tile}
-use Rattle.icode.specs.Plain.{parts_of}
+use Rattle.icode.specs.Plain.{PlainExpr, PlainOp, Load, Store, Zero, Add, Sub, Neg, MulConst, MulTable, Tile}
 use Rattle.grammar.specs.Reading.{Place, ◌>>=◌, pure_at, word_at, one_of_at, number_at, named_number_at, optional_at}
 use Rattle.listing_text.specs.declared.draft.Header.{Header}
 use Rattle.listing_text.specs.Drafts.{header_at}
 use Rattle.listing_text.specs.Numbers.{numbered_text}
-use Rattle.listing_text.specs.Reading.{above_all, up_to_at, part_at, refuse}
+use Rattle.listing_text.specs.Reading.{above_all, marked_sum_at, refuse}
 use Rattle.listing_text.specs.Wording.{program_of}
 use Rattle.word_code.specs.declared.program.Reduction.{Reduction}
+use Rattle.word_code.specs.Words.{Width}
 use Rattle.word_code.specs.WordProgram.{WordBody, PlainWordProgram, Loop, Do, NoStmts, AndStmts}
 use Rattle.fast_text.specs.FunctionText.{each_from, static_phase_text, parameters_text, functions_to_link_text}
-use Rattle.fast_text.specs.TextForm.{TextForm, named_function}
+use Rattle.fast_text.specs.TextForm.{TextForm, with_arrays, named_function, named_header}
 use Rattle.fast_text.specs.FirstValues.{first_values_text, own_arrays_text, callers_arrays_text}
 use Rattle.fast_text.specs.WordFront.{functions_text, arrays_text}
 use Rattle.fast_text.specs.WordText.{sources_text, targets_text, entries_text, declared_text}
 
--- ---- places: those of a listing, with a mark after each constant
-
-abbrev pub marked_by : (Place ℕ → Result (PlainExpr × Place ℕ) ℕ) → Place ℕ → Result (PlainExpr × Place ℕ) ℕ
-marked_by inner = do
-  constant ← number_at above_all
-  _ ← word_at (codes "ULL")
-  parts ← up_to_at 64 (part_at inner)
-  pure_at (Sum constant (parts_of parts))
-
--- what stands in one of the parentheses that are left to open, whose number is given
-unfoldable pub marked_at : ℕ → Place ℕ → Result (PlainExpr × Place ℕ) ℕ
-marked_at zero = refuse
-marked_at (suc depth) = marked_by (marked_at depth)
-
+-- a place of a listing, with a mark after each constant
 abbrev pub index_at : Place ℕ → Result (PlainExpr × Place ℕ) ℕ
-index_at = marked_by (marked_at 64)
+index_at = marked_sum_at (codes "ULL") 64
 
 -- ---- lines of a phase
 
@@ -248,25 +235,8 @@ phase_at before behind lanes regs number = do
   _ ← word_at (numbered_text before number behind ++ each_from declared_text regs 0)
   whole_body_at lanes
 
--- what stands before the number of a phase, and after it
-abbrev pub before_phase : TextForm → List ℕ
-before_phase (named_function name) = static_phase_text name
-before_phase form = codes "void phase"
-
-abbrev pub behind_phase : TextForm → List ℕ
-behind_phase (named_function name) = parameters_text
-behind_phase form = codes "(uint64_t q) {\n(void)q;\n"
-
--- what stands before all phases, and after them
-abbrev pub before_phases : TextForm → Bool → Header → List ℕ
-before_phases (named_function name) fresh h = []
-before_phases form fresh h = first_values_text own_arrays_text fresh ++ arrays_text (whole_lines h.size h.line)
-
-abbrev pub behind_phases : TextForm → Bool → Header → ℕ → List ℕ
-behind_phases (named_function name) fresh h phases =
-    first_values_text (callers_arrays_text fresh) fresh
-    ++ functions_to_link_text name (whole_lines h.size h.line) h.procs phases
-behind_phases form fresh h phases = []
+abbrev pub phases_at : List ℕ → List ℕ → Header → Place ℕ → Result (List WordBody × Place ℕ) ℕ
+phases_at before behind h = all_from_0 (phase_at before behind h.lanes h.regs)
 
 abbrev pub rough_words : List (List ℕ × Bool)
 rough_words = (codes "#define ROUGH 1\n", true) ∷ (codes "#define ROUGH 0\n", false) ∷ []
@@ -277,8 +247,15 @@ sizes_of h =
     codes "#include <stdint.h>\n" ++ numbered_text (codes "#define M ") h.modulus (codes "ULL\n")
     ++ numbered_text (codes "#define V ") h.lanes (codes "\n")
 
-unfoldable pub words_at : TextForm → Bool → Place ℕ → Result (PlainWordProgram × Place ℕ) ℕ
-words_at form fresh = do
+-- what stands before the arrays and the phases
+pub record Front : Type 0 where
+  pub header : Header
+  pub width : Width
+  pub tables : List (List ℕ)
+  pub quotients : List (List ℕ)
+
+unfoldable pub front_at : Place ℕ → Result (Front × Place ℕ) ℕ
+front_at = do
   h ← header_at (codes "/* program size ") (codes " */\n")
   _ ← word_at (sizes_of h)
   half ← named_number_at (codes "#define HALF ") above_all
@@ -287,12 +264,48 @@ words_at form fresh = do
   _ ← word_at functions_text
   tables ← all_from_0 (table_at (codes "t"))
   quotients ← all_from_0 (table_at (codes "u"))
-  _ ← word_at (before_phases form fresh h)
-  phases ← all_from_0 (phase_at (before_phase form) (behind_phase form) h.lanes h.regs)
-  _ ← word_at (behind_phases form fresh h (length phases))
   pure_at (record {
+    header = h;
     width = record { half = half; rough = rough };
-    frame = program_of h tables [];
+    tables = tables;
     quotients = quotients;
-    phases = phases;
   })
+
+abbrev pub words_of : Front → List WordBody → PlainWordProgram
+words_of front phases =
+    record {
+      width = front.width;
+      frame = program_of front.header front.tables [];
+      quotients = front.quotients;
+      phases = phases;
+    }
+
+-- what arrays have to hold before the first phase: any words or 0
+abbrev pub either_of : (Bool → List ℕ) → List (List ℕ × Bool)
+either_of text = (text true, true) ∷ (text false, false) ∷ []
+
+abbrev pub own_first_values : List (List ℕ × Bool)
+own_first_values = either_of (λ fresh. first_values_text own_arrays_text fresh)
+
+abbrev pub callers_first_values : List (List ℕ × Bool)
+callers_first_values = either_of (λ fresh. first_values_text (callers_arrays_text fresh) fresh)
+
+-- how many words an array has
+abbrev pub words_in : Header → ℕ
+words_in h = whole_lines h.size h.line
+
+-- the text of a form that has statements: whether arrays may hold any words, and the program
+unfoldable pub words_at : TextForm → Place ℕ → Result ((Bool × PlainWordProgram) × Place ℕ) ℕ
+words_at with_arrays = do
+  front ← front_at
+  fresh ← one_of_at own_first_values
+  _ ← word_at (arrays_text (words_in front.header))
+  phases ← phases_at (codes "void phase") (codes "(uint64_t q) {\n(void)q;\n") front.header
+  pure_at (fresh, words_of front phases)
+words_at (named_function name) = do
+  front ← front_at
+  phases ← phases_at (static_phase_text name) parameters_text front.header
+  fresh ← one_of_at callers_first_values
+  _ ← word_at (functions_to_link_text name (words_in front.header) front.header.procs (length phases))
+  pure_at (fresh, words_of front phases)
+words_at (named_header name) = refuse

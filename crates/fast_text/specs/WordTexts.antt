@@ -45,17 +45,18 @@ pub record IsSpellable (p : PlainWordProgram) : Type 0 where
   pub quotients : IsTrue (are_tables_of_words p.quotients)
   pub notes : IsTrue (list_all have_notes_of_words p.phases)
 
--- The text of this form is read as the program. A header has no statements.
+-- The text of this form is read as the program, and as saying whether arrays may hold any words. A header has no
+-- statements.
 abbrev pub IsReadAs : TextForm → Bool → List ℕ → PlainWordProgram → Type 0
 IsReadAs (named_header name) fresh text p = Unit {0}
-IsReadAs form fresh text p = whole (words_at form fresh) text ≡ Ok p
+IsReadAs form fresh text p = whole (words_at form) text ≡ Ok (fresh, p)
 
 abbrev pub HasStatements : TextForm → Type 0
 HasStatements (named_header name) = ⊥
 HasStatements form = Unit {0}
 
--- two programs on words with the same text are the same
+-- two programs on words with the same text are the same, and what it says of their arrays is the same
 abbrev pub TextsDetermineWords : Type 0
 TextsDetermineWords =
-    (form : TextForm) → HasStatements form → (fresh : Bool) (p q : PlainWordProgram) → IsSpellable p →
-    IsSpellable q → words_text form fresh p ≡ words_text form fresh q → p ≡ q
+    (form : TextForm) → HasStatements form → (fresh other : Bool) (p q : PlainWordProgram) → IsSpellable p →
+    IsSpellable q → words_text form fresh p ≡ words_text form other q → (fresh ≡ other) × (p ≡ q)

@@ -20,7 +20,7 @@ use Rattle.listing_text.specs.Wording.{PlainAct, Open, Close, Do}
 use Rattle.listing_text.specs.Acts.{act_words, array_words, factor_words, factor_at, operands_at, act_at, act_line_at}
 use Rattle.listing_text.proofs.ActsSpelt.{pair_at, triple_at}
 use Rattle.listing_text.proofs.ReadBack.{Back, then_back, first_digit, word_back, number_back, named_back, small_fits}
-use Rattle.listing_text.proofs.ReadBack.{goes_on, place_back}
+use Rattle.listing_text.proofs.ReadBack.{goes_on, sum_back}
 
 -- the act may stand inside this number of loops
 abbrev pub IsActWithin : ℕ → ℕ → PlainAct → Type 0
@@ -54,10 +54,7 @@ array_back array place rest e =
 pub expr_back : (e : PlainExpr) (open_loops : ℕ) → is_expr_within e open_loops ≡ true → open_loops ≤ 64 →
     (place : Place ℕ) (rest : List ℕ) → place.rest ≡ sum_text e ++ rest → begins goes_on rest ≡ false →
     Back (sum_at 64) e place rest
-expr_back e open_loops w few_open place rest is none =
-    let limits = and_parts (is_sum_within e open_loops) (leb (sum_parts e) 64 && leb (sum_depth e) 64) w in
-    let counts = and_parts (leb (sum_parts e) 64) (leb (sum_depth e) 64) limits.1 in
-    place_back e 64 open_loops limits.0 few_open (leb-true (sum_parts e) 64 counts.0) (leb-true (sum_depth e) 64 counts.1) place rest is none
+expr_back = sum_back [] (λ rest none. none)
 
 -- a constant is no table
 no_table : (n : ℕ) (rest : List ℕ) (far : ℕ) → n < above_all → placed far (one_of_in factor_words (codes " " ++ (decimal n ++ rest))) ≡ Ok (false, record { rest = decimal n ++ rest; far = far })

@@ -33,11 +33,6 @@ header_left : (a b c d e f g s m p l v r rest : List ℕ)
     ≡ (a ++ s ++ b ++ m ++ c ++ p ++ d ++ l ++ e ++ v ++ f ++ r ++ g) ++ rest
 header_left a b c d e f g s m p l v r rest = simp append_assoc
 
-header_right : (a b c d e f g s m p l v r : List ℕ)
-    → a ++ s ++ b ++ m ++ c ++ p ++ d ++ l ++ e ++ v ++ f ++ r ++ g ≡ a
-    ++ (s ++ (b ++ (m ++ (c ++ (p ++ (d ++ (l ++ (e ++ (v ++ (f ++ (r ++ g)))))))))))
-header_right a b c d e f g s m p l v r = simp append_assoc
-
 -- a whole line that is read back
 pub whole_back : {A : Type 0} (read : Place ℕ → Result (A × Place ℕ) ℕ) (x : A) (line : List ℕ) →
     Back read x (start line) [] → whole read line ≡ Ok x
@@ -72,32 +67,42 @@ module _ (before behind : List ℕ) where
   unfolding text
   header_is line h e = (whole_spelt Any text line (header_at before behind (start line)) h (header_spelt (start line)) e).1
 
-  pub header_back : NoDigit behind → (h : Header) → IsHeaderWithin h.size h.modulus h.procs h.line h.lanes h.regs
-      → whole (header_at before behind) (header_line before behind h) ≡ Ok h
-  header_back none h w =
+  -- in front of a text
+  pub header_in_front : (h : Header) → IsHeaderWithin h.size h.modulus h.procs h.line h.lanes h.regs →
+      (place : Place ℕ) (rest : List ℕ) → NoDigit (behind ++ rest) → place.rest ≡ header_line before behind h ++ rest →
+      Back (header_at before behind) h place rest
+  header_in_front h w place rest none e =
       let size : h.size < above_all = omega (arith, w.of_size.1) in
       let modulus : h.modulus < above_all = omega (arith, w.of_modulus.1) in
       let procs : h.procs < above_all = omega (arith, w.of_procs.1) in
       let words : h.line < above_all = omega (arith, w.of_line.1) in
       let lanes : h.lanes < above_all = omega (arith, w.of_lanes.1) in
       let regs : h.regs < above_all = omega (arith, w.of_regs) in
-      let t6 : List ℕ = codes " regs " ++ (decimal h.regs ++ behind) in
+      let t7 : List ℕ = behind ++ rest in
+      let t6 : List ℕ = codes " regs " ++ (decimal h.regs ++ t7) in
       let t5 : List ℕ = codes " lanes " ++ (decimal h.lanes ++ t6) in
       let t4 : List ℕ = codes " line " ++ (decimal h.line ++ t5) in
       let t3 : List ℕ = codes " procs " ++ (decimal h.procs ++ t4) in
       let t2 : List ℕ = codes " mod " ++ (decimal h.modulus ++ t3) in
-      let place : Place ℕ = start (header_line before behind h) in
       let first : place.rest ≡ before ++ (decimal h.size ++ t2) =
-      header_right before (codes " mod ") (codes " procs ") (codes " line ") (codes " lanes ") (codes " regs ") behind
-      (decimal h.size) (decimal h.modulus) (decimal h.procs) (decimal h.line) (decimal h.lanes) (decimal h.regs) in
-      whole_back (header_at before behind) h (header_line before behind h)
-      (then_back (named_number_at before above_all) _ h.size h place t2 [] (named_back before h.size place t2 size refl first) (λ q1 e1.
-      then_back (named_number_at (codes " mod ") above_all) _ h.modulus h q1 t3 [] (named_back (codes " mod ") h.modulus q1 t3 modulus refl e1) (λ q2 e2.
-      then_back (named_number_at (codes " procs ") above_all) _ h.procs h q2 t4 [] (named_back (codes " procs ") h.procs q2 t4 procs refl e2) (λ q3 e3.
-      then_back (named_number_at (codes " line ") above_all) _ h.line h q3 t5 [] (named_back (codes " line ") h.line q3 t5 words refl e3) (λ q4 e4.
-      then_back (named_number_at (codes " lanes ") above_all) _ h.lanes h q4 t6 [] (named_back (codes " lanes ") h.lanes q4 t6 lanes refl e4) (λ q5 e5.
-      then_back (named_number_at (codes " regs ") above_all) _ h.regs h q5 behind [] (named_back (codes " regs ") h.regs q5 behind regs none e5) (λ q6 e6.
-      then_back (word_at behind) _ tt h q6 [] [] (word_back behind q6 [] (e6 ∙ sym (append-nil behind))) (λ q7 e7. (q7, refl, e7)))))))))
+      e
+      ∙ sym (header_left before (codes " mod ") (codes " procs ") (codes " line ") (codes " lanes ") (codes " regs ") behind
+      (decimal h.size) (decimal h.modulus) (decimal h.procs) (decimal h.line) (decimal h.lanes) (decimal h.regs) rest) in
+      then_back (named_number_at before above_all) _ h.size h place t2 rest (named_back before h.size place t2 size refl first) (λ q1 e1.
+      then_back (named_number_at (codes " mod ") above_all) _ h.modulus h q1 t3 rest (named_back (codes " mod ") h.modulus q1 t3 modulus refl e1) (λ q2 e2.
+      then_back (named_number_at (codes " procs ") above_all) _ h.procs h q2 t4 rest (named_back (codes " procs ") h.procs q2 t4 procs refl e2) (λ q3 e3.
+      then_back (named_number_at (codes " line ") above_all) _ h.line h q3 t5 rest (named_back (codes " line ") h.line q3 t5 words refl e3) (λ q4 e4.
+      then_back (named_number_at (codes " lanes ") above_all) _ h.lanes h q4 t6 rest (named_back (codes " lanes ") h.lanes q4 t6 lanes refl e4) (λ q5 e5.
+      then_back (named_number_at (codes " regs ") above_all) _ h.regs h q5 t7 rest (named_back (codes " regs ") h.regs q5 t7 regs none e5) (λ q6 e6.
+      then_back (word_at behind) _ tt h q6 rest rest (word_back behind q6 rest e6) (λ q7 e7. (q7, refl, e7))))))))
+
+  -- as a whole line
+  pub header_back : NoDigit behind → (h : Header) → IsHeaderWithin h.size h.modulus h.procs h.line h.lanes h.regs
+      → whole (header_at before behind) (header_line before behind h) ≡ Ok h
+  header_back none h w =
+      let line : List ℕ = header_line before behind h in
+      whole_back (header_at before behind) h line
+      (header_in_front h w (start line) [] (subst (λ text. NoDigit text) (sym (append-nil behind)) none) (sym (append-nil line)))
 
 -- ---- a table of a listing
 

@@ -6,7 +6,7 @@ use Rattle.grammar.specs.Reading.{Place, and_then, pure_at}
 use Rattle.grammar.specs.Cursor.{Tells}
 use Rattle.grammar.specs.declared.token.ReadError.{ReadError}
 use Rattle.grammar.specs.declared.token.ReadError.TheVariants as errors
-use Rattle.listing_text.specs.Reading.{up_to_at, inner_at, sum_at}
+use Rattle.listing_text.specs.Reading.{up_to_at, inner_at, marked_inner_at, sum_at}
 
 -- the parts so far, and those that are read after them
 abbrev pub in_front : {A : Type 0} → List A → Result (List A × Place ℕ) ℕ → Result (List A × Place ℕ) ℕ
@@ -61,11 +61,11 @@ parts_end read i place front total le so_far =
 
 -- with no parentheses left, and with some
 pub inner_none : (depth : ℕ) (place : Place ℕ) → depth ≡ 0 → inner_at depth place ≡ Err (length place.rest)
-unfolding inner_at
+unfolding marked_inner_at
 inner_none depth place e = rw e refl
 
 pub inner_some : (depth : ℕ) (place : Place ℕ) → depth ≢ 0 → inner_at depth place ≡ sum_at (depth - 1) place
-unfolding inner_at
+unfolding marked_inner_at
 inner_some zero place ne = absurd (ne refl)
 inner_some (suc depth) place ne = let k : suc depth - 1 ≡ depth = omega arith in ap (λ d. sum_at d place) (sym k)
 

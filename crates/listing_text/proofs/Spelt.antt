@@ -15,7 +15,7 @@ use Rattle.grammar.proofs.Places.{Answers}
 use Rattle.listing_text.specs.declared.reading.Head.TheVariants as heads
 use Rattle.listing_text.specs.Listing.{sum_text, parts_text, part_text}
 use Rattle.listing_text.specs.Reading.{above_all, others_of, up_to_at, part_heads, second_heads, division_words}
-use Rattle.listing_text.specs.Reading.{variable_at, divided, part_by, part_at, sum_by, inner_at, sum_at}
+use Rattle.listing_text.specs.Reading.{variable_at, divided, part_by, part_at, sum_by, inner_at, marked_inner_at, sum_at}
 
 -- The value fits, and its text stands at the front
 abbrev pub Spelt : {A : Type 0} → (A → Type 0) → (A → List ℕ) → List ℕ → Result (A × Place ℕ) ℕ → Type 0
@@ -220,7 +220,7 @@ module _ (depth : ℕ) (inner : Place ℕ → Result (PlainExpr × Place ℕ) �
       spelt_then (PartFits depth) part_or_none_text (λ parts. parts_depth (parts_of parts) ≤ depth) (λ parts. parts_text (parts_of parts)) place.rest place.rest (part_at inner place) _ (part_spelt place)
       (λ first q f e. others_spelt place.rest first (up_to_at count (part_at inner)) q f e (parts_spelt count q))
 
-  pub sum_spelt : (place : Place ℕ) → Spelt (λ e. sum_depth e ≤ depth) sum_text place.rest (sum_by inner place)
+  pub sum_spelt : (place : Place ℕ) → Spelt (λ e. sum_depth e ≤ depth) sum_text place.rest (sum_by [] inner place)
   sum_spelt place =
       number_then (λ e. sum_depth e ≤ depth) sum_text place.rest place _ (λ constant q e.
       spelt_then (λ parts. parts_depth (parts_of parts) ≤ depth) (λ parts. parts_text (parts_of parts)) (λ e. sum_depth e ≤ depth) sum_text q.rest place.rest (up_to_at 64 (part_at inner) q) _ (parts_spelt 64 q)
@@ -232,9 +232,9 @@ deeper depth start (Ok x) h = (omega (arith, h.0), h.1)
 deeper depth start (Err left) h = tt
 
 inner_spelt : (depth : ℕ) (place : Place ℕ) → Spelt (SumFits depth) sum_text place.rest (inner_at depth place)
-unfolding inner_at
+unfolding marked_inner_at
 inner_spelt zero place = tt
-inner_spelt (suc depth) place = deeper depth place.rest (sum_by (inner_at depth) place) (sum_spelt depth (inner_at depth) (inner_spelt depth) place)
+inner_spelt (suc depth) place = deeper depth place.rest (sum_by [] (inner_at depth) place) (sum_spelt depth (inner_at depth) (inner_spelt depth) place)
 
 -- a place is read as its text, with no more parentheses open
 pub place_spelt : (depth : ℕ) (place : Place ℕ) → Spelt (λ e. sum_depth e ≤ depth) sum_text place.rest

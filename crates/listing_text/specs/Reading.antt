@@ -71,18 +71,33 @@ part_at inner = do
   head ← one_of_at part_heads
   part_by inner head
 
--- a place, where this reads what stands in parentheses
-abbrev pub sum_by : (Place ℕ → Result (PlainExpr × Place ℕ) ℕ) → Place ℕ → Result (PlainExpr × Place ℕ) ℕ
-sum_by inner = do
+-- a constant and its mark, if there is one
+abbrev pub constant_at : List ℕ → Place ℕ → Result (ℕ × Place ℕ) ℕ
+constant_at [] = number_at above_all
+constant_at (b ∷ mark) = do
   constant ← number_at above_all
+  _ ← word_at (b ∷ mark)
+  pure_at constant
+
+-- a place with this mark after each constant, where this reads what stands in parentheses
+abbrev pub sum_by : List ℕ → (Place ℕ → Result (PlainExpr × Place ℕ) ℕ) → Place ℕ → Result (PlainExpr × Place ℕ) ℕ
+sum_by mark inner = do
+  constant ← constant_at mark
   parts ← up_to_at 64 (part_at inner)
   pure_at (Sum constant (parts_of parts))
 
 -- what stands in one of the parentheses that are left to open, whose number is given
-unfoldable pub inner_at : ℕ → Place ℕ → Result (PlainExpr × Place ℕ) ℕ
-inner_at zero = refuse
-inner_at (suc depth) = sum_by (inner_at depth)
+unfoldable pub marked_inner_at : List ℕ → ℕ → Place ℕ → Result (PlainExpr × Place ℕ) ℕ
+marked_inner_at mark zero = refuse
+marked_inner_at mark (suc depth) = sum_by mark (marked_inner_at mark depth)
 
 -- a place, given how many parentheses are left to open
+abbrev pub marked_sum_at : List ℕ → ℕ → Place ℕ → Result (PlainExpr × Place ℕ) ℕ
+marked_sum_at mark depth = sum_by mark (marked_inner_at mark depth)
+
+-- in a listing there is no mark
+abbrev pub inner_at : ℕ → Place ℕ → Result (PlainExpr × Place ℕ) ℕ
+inner_at depth = marked_inner_at [] depth
+
 abbrev pub sum_at : ℕ → Place ℕ → Result (PlainExpr × Place ℕ) ℕ
-sum_at depth = sum_by (inner_at depth)
+sum_at depth = marked_sum_at [] depth
