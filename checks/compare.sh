@@ -193,6 +193,28 @@ in_words_of_52() {
   fi
 }
 
+# in_words_of_16 REQUEST: words of 16 bits, in texts, with lanes from loops too, and in a function
+in_words_of_16() {
+  local request=$1 size
+  size=$(size_of "$request")
+  { extremes "$size" "$(echo "$request" | cut -d' ' -f4)" && vectors "$size" 2; } >"$work/data"
+  prepared "$request"
+  fast_text "$request" --words 16
+  compared "16-bit words of $request" gcc -O2
+  compared "16-bit words of $request" clang -O3 -march=native
+  if [ "$size" -le 256 ]; then
+    compared "16-bit words of $request" gcc -O1 -g -fsanitize=address,undefined
+    compared "16-bit words of $request" clang -O1 -g -fsanitize=address,undefined
+  fi
+  functions "$request" --words 16
+  linked "functions of 16-bit words of $request" gcc -O3 -march=native
+  [[ $request != *lanes* ]] || return 0
+  for lanes in 4 16; do
+    fast_text "$request" --words 16 --lanes "$lanes"
+    compared "$lanes lanes of 16-bit words from loops of $request" gcc -O3 -march=native
+  done
+}
+
 # A listing with a place of constants alone, which numbers of 32 bits do not hold: as `exec` runs it
 constant_place() {
   cat >"$work/listing" <<'END'
@@ -259,6 +281,7 @@ while read -r request; do
   begin by_fast_request "$request"
   [[ $request == *lanes* ]] || begin on_lanes "$request"
   [ "$(echo "$request" | cut -d' ' -f4)" -ge $((1 << 51)) ] || begin in_words_of_52 "$request"
+  [ "$(echo "$request" | cut -d' ' -f4)" -ge $((1 << 15)) ] || begin in_words_of_16 "$request"
 done <"$top/checks/fast_requests"
 while read -r request; do
   [ -n "$request" ] || continue

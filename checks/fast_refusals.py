@@ -15,7 +15,7 @@ import tempfile
 TOP = os.path.dirname(os.path.dirname(os.path.abspath(__file__)))
 os.environ["PATH"] = f"{TOP}/bin{os.pathsep}{os.environ['PATH']}"
 USAGE = (
-    "usage: spiral_fast [--words 32|52|64] [--lanes 2|4|8|16] [--name NAME [--header]] < LISTING > TEXT "
+    "usage: spiral_fast [--words 16|32|52|64] [--lanes 2|4|8|16] [--name NAME [--header]] < LISTING > TEXT "
     "(reads a listing, writes C)"
 )
 
@@ -37,6 +37,8 @@ LISTINGS = {
     "register": program(17, "ld r0 X[0]", "st Y[0] r2"),
     "line": program(17, "ld r0 X[0]", "st Y[0] r0", procs=2),
     "actions": program(17, "for v0 100001", "for v1 1000", "zero r0", "end", "end"),
+    "modulus of 15 bits": program(2**15 - 1, "ld r0 X[0]", "st Y[0] r0"),
+    "modulus of 16 bits": program(2**15, "ld r0 X[0]", "st Y[0] r0"),
     "modulus of 31 bits": program(2**31 - 1, "ld r0 X[0]", "st Y[0] r0"),
     "modulus of 32 bits": program(2**31, "ld r0 X[0]", "st Y[0] r0"),
     "modulus of 52 bits": program(2**51, "ld r0 X[0]", "st Y[0] r0"),
@@ -76,6 +78,8 @@ ROWS = (
     ("line", "", 21, "phase 0 line 2 is shared by 0 and 1"),
     ("actions", "", 22, "more than 100000000 actions"),
     # its modulus
+    ("modulus of 15 bits", "--words 16", 0, ""),
+    ("modulus of 16 bits", "--words 16", 24, "modulus of more than 16-bit words"),
     ("modulus of 31 bits", "--words 32", 0, ""),
     ("modulus of 32 bits", "--words 32", 24, "modulus of more than 32-bit words"),
     ("modulus of 32 bits", "--words 52", 0, ""),
@@ -131,7 +135,7 @@ def outside():
 # ---- names
 
 # Texts of one lane, of vectors and of other lanes, in words of each size; by the modulus, the lanes and the options.
-FORMS = [(17, lanes, ("--words", words)) for lanes in (1, 3, 8) for words in ("32", "52", "64")]
+FORMS = [(17, lanes, ("--words", words)) for lanes in (1, 3, 8) for words in ("16", "32", "52", "64")]
 COMPILERS = ("gcc", "clang")
 
 

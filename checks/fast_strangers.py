@@ -27,8 +27,8 @@ from listings import Lost, read_listing
 from strangers import Checked, count, parts_of
 from sweep import MOST_ACTIONS, Numbers, other_byte, other_lines, other_number
 
-# By modulus: the greatest that words of 32 bits take, one more, and so on.
-MODULI = (2, 3, 17, 257, 7681, 12289, 65537, 2**31 - 1, 2**31, 2**31 + 11, 2**32 + 15, 2**51 - 1, 2**51, 2**59 - 55, 2**62 - 1)
+# By modulus: the greatest that words of 16 bits take, one more, and so on.
+MODULI = (2, 3, 17, 257, 7681, 12289, 2**15 - 1, 2**15, 65537, 2**31 - 1, 2**31, 2**31 + 11, 2**32 + 15, 2**51 - 1, 2**51, 2**59 - 55, 2**62 - 1)
 REQUESTS = (
     "dft 8 mod 17 root 9",
     "dft 12 mod 13 root 2",
@@ -135,7 +135,7 @@ def listing_of(numbers):
 
 
 def options_of(numbers):
-    words = numbers.one_of(((), (), ("--words", "32"), ("--words", "52"), ("--words", "64")))
+    words = numbers.one_of(((), (), ("--words", "16"), ("--words", "32"), ("--words", "52"), ("--words", "64")))
     lanes = numbers.one_of(((), (), ("--lanes", "2"), ("--lanes", "4"), ("--lanes", "8"), ("--lanes", "16")))
     return words, lanes, bool(numbers.below(2))
 
@@ -170,7 +170,8 @@ def reads_and_puts(word, operands, lanes):
 
 def refusal(program, words, is_function):
     """Of a listing that passes the check: what `spiral-fast` says of it, if it refuses it."""
-    bits, limit = {"--words 32": (32, 2**31), "--words 52": (52, 2**51)}.get(" ".join(words), (64, 2**62))
+    bits = int(words[1]) if words else 64
+    limit = 2 ** min(bits - 1, 62)
     if program.request.modulus >= limit:
         return 24, f"modulus of more than {bits}-bit words"
     for number, statements in enumerate(program.phases):

@@ -4,7 +4,7 @@
     front.py
 
 The functions splat, load, store, add, sub, neg, mul, reduced and tile come from texts that spiral-fast writes of small
-listings: for words of 32, 52 and 64 bits, for 1, 2, 3, 4, 8 and 16 lanes, and with rough and exact high halves. GCC and
+listings: for words of 16, 32, 52 and 64 bits, for 1, 2, 3, 4, 8 and 16 lanes, and with rough and exact high halves. GCC and
 Clang compile each text at -O0 and -O3, with each instruction set that the machine has, and GCC for AArch64 where it and
 qemu-aarch64 are there. The words are corners and many others.
 """
@@ -46,7 +46,7 @@ class Width:
 
     def __init__(self, bits, rough, moduli, sets):
         self.bits, self.rough, self.moduli, self.sets = bits, rough, moduli, sets
-        self.half, self.base, self.sums = 1 << bits // 2, 1 << bits, 1 << (32 if bits == 32 else 64)
+        self.half, self.base, self.sums = 1 << bits // 2, 1 << bits, 1 << (bits if bits <= 32 else 64)
 
     def __str__(self):
         return f"words of {self.bits} bits{', rough' if self.rough else ''}"
@@ -68,6 +68,7 @@ class Width:
 
 
 WIDTHS = (
+    Width(16, False, (32767, 12289, 3), ("plain", "SSE4.1", "AVX2", "AVX-512F", "AVX-512")),
     Width(32, False, (2147389441, 3), ("plain", "SSE4.1", "AVX2", "AVX-512F", "AVX-512")),
     Width(52, False, (2251799813685247, 3), ("plain", "AVX2", "AVX-IFMA", "AVX-512F", "AVX-512", "IFMA")),
     Width(64, True, (4611686018427387903, 1152921504577486849), ("plain", "AVX2", "AVX-512F", "AVX-512")),
@@ -149,7 +150,7 @@ def amounts(width, modulus):
 
 
 def corners(width, modulus):
-    near = [1 << 16, 1 << 26, 1 << 32, 1 << 52, width.sums // 2, width.sums, modulus, 2 * modulus]
+    near = [1 << 8, 1 << 16, 1 << 26, 1 << 32, 1 << 52, width.sums // 2, width.sums, modulus, 2 * modulus]
     return sorted({(word + d) % width.sums for word in near for d in (-1, 0, 1)})
 
 

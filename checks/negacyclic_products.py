@@ -61,6 +61,9 @@ PROGRAMS = [  # size, modulus, further words of the request, options of negacycl
     (256, 8380417, "lanes 8 unroll 16", "--twist 1753 --order reversed", ""),
     (4096, SIXTY_BITS, "lanes 4", "", ""),
     (1024, 1125899906826241, "unroll 16", "", "--words 52 --lanes 8"),
+    # the rings of Falcon and NewHope in words of 16 bits
+    (512, 12289, "unroll 16", "", "--words 16 --lanes 16"),
+    (1024, 12289, "lanes 16 unroll 16", "", "--words 16"),
 ]
 
 
@@ -225,8 +228,9 @@ def check_programs():
     with tempfile.TemporaryDirectory() as folder:
         for size, modulus, words, options, fast in PROGRAMS:
             check_program(f"{folder}/product", [str(size), str(modulus), words], size, modulus, options, fast)
-        check_program(f"{folder}/kyber", ["kyber"], KYBER_SIZE, KYBER_MODULUS)
-    return len(PROGRAMS) + 1
+        for fast in ("", "--words 16"):
+            check_program(f"{folder}/kyber", ["kyber"], KYBER_SIZE, KYBER_MODULUS, fast=fast)
+    return len(PROGRAMS) + 2
 
 
 def main():

@@ -25,7 +25,8 @@ class Transform:
             header = file.read()
         sizes = {word: int(value) for word, value in re.findall(r"^#define \w+_([A-Z]+) (\d+)", header, re.M)}
         self.size, self.words, self.work, self.modulus = (sizes[w] for w in ("SIZE", "WORDS", "WORK", "MODULUS"))
-        self.word = ctypes.c_uint32 if f"void {name}(uint32_t" in header else ctypes.c_uint64
+        bits = re.search(rf"^void {name}\(uint(\d+)_t", header, re.M)[1]
+        self.word = getattr(ctypes, f"c_uint{bits}")
         self.function = getattr(ctypes.CDLL(os.path.abspath(library)), name)
         self.function.restype = None
 

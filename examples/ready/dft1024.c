@@ -6,7 +6,10 @@
 #define ROUGH 1
 #pragma GCC diagnostic ignored "-Wpsabi"
 #define INLINE static inline __attribute__((always_inline, unused))
-#if HALF == 65536
+#if HALF == 256
+typedef uint16_t word;
+INLINE word high(word a, word q) { return (uint32_t)a * q >> 16; }
+#elif HALF == 65536
 typedef uint32_t word;
 INLINE word high(word a, word q) { return (uint64_t)a * q >> 32; }
 #elif HALF == 67108864
@@ -32,11 +35,11 @@ INLINE vec neg(vec a, word k) { return k - a; }
 #if HALF == 67108864
 INLINE vec mul(vec a, vec c, vec q) { return (a * c - high(a, q) * (word)M) & LOW52; }
 #else
-INLINE vec mul(vec a, vec c, vec q) { return a * c - high(a, q) * (word)M; }
+INLINE vec mul(vec a, vec c, vec q) { return 1u * a * c - 1u * high(a, q) * (word)M; }
 #endif
 INLINE vec reduced(vec a, word k) { vec d = a - k; return a < d ? a : d; }
 INLINE void tile(vec *b) { (void)b; }
-#elif (V == 2 || V == 4 || V == 8 || V == 16) && (HALF == 65536 || HALF == 67108864 || ROUGH)
+#elif (V == 2 || V == 4 || V == 8 || V == 16) && (HALF < 4294967296 || ROUGH)
 #define _MM_MALLOC_H_INCLUDED
 #define __MM_MALLOC_H
 #if defined __AVX2__
@@ -46,7 +49,9 @@ INLINE void tile(vec *b) { (void)b; }
 #elif defined __SSE2__
 #include <emmintrin.h>
 #endif
-#if HALF == 65536
+#if HALF == 256
+#define WORDS(bytes) ((bytes) / 2)
+#elif HALF == 65536
 #define WORDS(bytes) ((bytes) / 4)
 #else
 #define WORDS(bytes) ((bytes) / 8)
@@ -68,7 +73,11 @@ INLINE void tile(vec *b) { (void)b; }
 #endif
 typedef word part __attribute__((vector_size(sizeof(word) * P)));
 typedef part unaligned __attribute__((aligned(sizeof(word)), may_alias));
-typedef uint64_t wide __attribute__((vector_size(sizeof(word) * P)));
+#if HALF == 256
+typedef uint32_t wide __attribute__((vector_size(2 * sizeof(part))));
+#else
+typedef uint64_t wide __attribute__((vector_size(sizeof(part))));
+#endif
 typedef struct { part p[V / P]; } vec;
 #define PARTS(e) vec r; for (int i = 0; i < V / P; i++) r.p[i] = (e); return r
 INLINE vec splat(word x) { PARTS((part){} + x); }
@@ -92,11 +101,13 @@ INLINE vec neg(vec a, word k) { PARTS(k - a.p[i]); }
 #define UPPER(d, l) ((l) & (d) ? P + (l) - (d) : (l))
 #define LOWER(d, l) ((l) & (d) ? P + (l) : (l) + (d))
 #define PICKED(a, b, f, d) __builtin_shufflevector(a, b, EACH(f, d))
-#if defined BITS && HALF == 65536 && defined __SSE4_1__
+#if defined BITS && HALF == 256 && defined __SSE4_1__
+#define MINIMUM(a, b) (part)BY(min_epu16, BITS(a), BITS(b))
+#elif defined BITS && HALF == 65536 && defined __SSE4_1__
 #define MINIMUM(a, b) (part)BY(min_epu32, BITS(a), BITS(b))
-#elif defined BITS && HALF != 65536 && defined __AVX512F__ && (P == WORDS(64) || defined __AVX512VL__)
+#elif defined BITS && HALF > 65536 && defined __AVX512F__ && (P == WORDS(64) || defined __AVX512VL__)
 #define MINIMUM(a, b) (part)BY(min_epu64, BITS(a), BITS(b))
-#elif !defined BITS && HALF == 65536 && defined __has_builtin
+#elif !defined BITS && HALF <= 65536 && defined __has_builtin
 #if __has_builtin(__builtin_elementwise_min)
 #define MINIMUM __builtin_elementwise_min
 #endif
@@ -111,12 +122,15 @@ return k > TOP_BIT ? a - ((part)(a >= k) & k) : d + ((part)((__typeof__(a < d))d
 #endif
 INLINE vec reduced(vec a, word k) { PARTS(reduced_part(a.p[i], k)); }
 #ifdef BITS
-INLINE wide low(wide a, wide b) { return (wide)BY(mul_epu32, BITS(a), BITS(b)); }
 INLINE part moduli(void) { part m = (part){} + (word)M; __asm__("" : "+v"(m)); return m; }
 #else
+INLINE part moduli(void) { return (part){} + (word)M; }
+#endif
+#if defined BITS && HALF > 256
+INLINE wide low(wide a, wide b) { return (wide)BY(mul_epu32, BITS(a), BITS(b)); }
+#elif HALF > 256
 #define LOW 0xffffffffULL
 INLINE wide low(wide a, wide b) { return (a & LOW) * (b & LOW); }
-INLINE part moduli(void) { return (part){} + (word)M; }
 #endif
 #if HALF == 67108864
 #if defined BITS && defined __AVX512IFMA__ && (P == WORDS(64) || defined __AVX512VL__)
@@ -136,7 +150,12 @@ part h = low(a1, q1) + ((low(a1, q0) + low(a0, q1) + (low(a0, q0) >> 26)) >> 26)
 return (a * c - h * moduli()) & LOW52; }
 #endif
 #else
-#if HALF == 65536
+#if defined BITS && HALF == 256
+INLINE part halves(part a, part q) { return (part)BY(mulhi_epu16, BITS(a), BITS(q)); }
+#elif HALF == 256
+INLINE wide widened(part a) { return __builtin_convertvector(a, wide); }
+INLINE part halves(part a, part q) { return __builtin_convertvector(widened(a) * widened(q) >> 16, part); }
+#elif HALF == 65536
 INLINE part halves(part a, part q) {
 wide even = low((wide)a, (wide)q), odd = low((wide)a >> 32, (wide)q >> 32);
 return PICKED((part)even, (part)odd, LOWER, 1); }
@@ -178,7 +197,7 @@ INLINE vec neg(vec a, word k) { LANES(k - a.l[l]); }
 #if HALF == 67108864
 INLINE vec mul(vec a, vec c, vec q) { LANES((a.l[l] * c.l[l] - high(a.l[l], q.l[l]) * (word)M) & LOW52); }
 #else
-INLINE vec mul(vec a, vec c, vec q) { LANES(a.l[l] * c.l[l] - high(a.l[l], q.l[l]) * (word)M); }
+INLINE vec mul(vec a, vec c, vec q) { LANES(1u * a.l[l] * c.l[l] - 1u * high(a.l[l], q.l[l]) * (word)M); }
 #endif
 INLINE word least(word a, word b) { return a < b ? a : b; }
 INLINE vec reduced(vec a, word k) { LANES(least(a.l[l], a.l[l] - k)); }

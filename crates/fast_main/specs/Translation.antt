@@ -17,7 +17,7 @@ use Rattle.loop_lanes.specs.Lanes.{can_be_laned, laned}
 use Rattle.two_tables.specs.Factored.{factored, large_table}
 use Rattle.word_code.specs.Bare.{WordsFit}
 use Rattle.word_code.specs.declared.laziness.WordSize.{WordSize}
-use Rattle.word_code.specs.declared.laziness.WordSize.TheVariants.{Of32, Of52, Of64}
+use Rattle.word_code.specs.declared.laziness.WordSize.TheVariants.{Of16, Of32, Of52, Of64}
 use Rattle.word_code.specs.Bytes.{bytes_of_line}
 use Rattle.word_code.specs.Laziness.{fast_words, size_for}
 use Rattle.word_code.specs.FreshWords.{word_results_among}
@@ -49,6 +49,7 @@ in_blocks lanes p = fused large_size (on_lanes lanes p)
 
 -- two products cost less than an entry of a large table: not in words of 64 bits
 abbrev pub has_cheap_products : WordSize → Bool
+has_cheap_products Of16 = true
 has_cheap_products Of32 = true
 has_cheap_products Of52 = true
 has_cheap_products Of64 = false

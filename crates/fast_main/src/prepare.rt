@@ -22,6 +22,7 @@ fn has_cheap_products(size: WordSize) -> bool
     ensures { result ≡ has_cheap_products size }
 {
     match size {
+        WordSize::Of16 => true,
         WordSize::Of32 => true,
         WordSize::Of52 => true,
         WordSize::Of64 => false,

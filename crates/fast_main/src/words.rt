@@ -10,6 +10,7 @@ pub(crate) fn bits_of(size: WordSize) -> u64
     ensures { result ≡ bits_of size }
 {
     match size {
+        WordSize::Of16 => 16,
         WordSize::Of32 => 32,
         WordSize::Of52 => 52,
         WordSize::Of64 => 64,

@@ -14,7 +14,7 @@ use Rattle.icode.specs.Plain as plain
 use Rattle.listing_text.specs.Reading.{above_all}
 use Rattle.listing_text.proofs.ReadBack.{small_fits}
 use Rattle.word_code.specs.declared.laziness.WordSize.{WordSize}
-use Rattle.word_code.specs.declared.laziness.WordSize.TheVariants.{Of32, Of52, Of64}
+use Rattle.word_code.specs.declared.laziness.WordSize.TheVariants.{Of16, Of32, Of52, Of64}
 use Rattle.word_code.specs.Laziness.{narrow, wide, laziness_for}
 use Rattle.word_code.specs.Laws.{IsLazyWithin}
 use Rattle.word_code.specs.Needs.{needs}
@@ -242,6 +242,7 @@ quickened_spells z p within lazy base half =
 -- the words of each size are below 2 ^ 64
 pub width_of_words : (size : WordSize) (m lanes : ℕ) →
     (base_of (laziness_for size m lanes).width ≤ above_all) × ((laziness_for size m lanes).width.half < above_all)
+width_of_words Of16 m lanes = (omega arith, omega arith)
 width_of_words Of32 m lanes = (omega arith, omega arith)
 width_of_words Of52 m lanes = (omega arith, omega arith)
 width_of_words Of64 m lanes = (omega arith, omega arith)

@@ -1,5 +1,5 @@
 -- The text of a function to link: what stands round its phases, and the header for its callers.
-use Rattle.std.specs.Prelude.{ℕ, zero, suc, ◌+◌, ◌-◌, ◌&&◌, nat_le, Bool, true, false, List, [], ◌++◌, codes, decimal}
+use Rattle.std.specs.Prelude.{ℕ, zero, suc, ◌+◌, ◌-◌, ◌&&◌, ◌==◌, nat_le, Bool, true, false, List, [], ◌++◌, codes, decimal}
 use Rattle.std.specs.Prelude.{if◌then◌else◌}
 use Rattle.listing_text.specs.Numbers.{numbered_text}
 
@@ -114,10 +114,10 @@ asked_text capitals name =
     calls_text capitals name ++ input_asked_text capitals ++ results_told_text capitals
     ++ lines_told_text capitals
 
--- of words of 32 bits, and of others
-abbrev pub word_type_text : Bool → List ℕ
-word_type_text true = codes "uint32_t"
-word_type_text false = codes "uint64_t"
+-- of words whose base has this square root: of 16 bits, of 32, and of others
+abbrev pub word_type_text : ℕ → List ℕ
+word_type_text half =
+    if half == 256 then codes "uint16_t" else (if half == 65536 then codes "uint32_t" else codes "uint64_t")
 
 -- the three arrays as parameters
 abbrev pub arrays_asked_text : List ℕ → List ℕ

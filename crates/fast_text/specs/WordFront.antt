@@ -8,7 +8,10 @@ unfoldable pub word_text : List ℕ
 word_text =
     codes "#pragma GCC diagnostic ignored \"-Wpsabi\"\n"
     ++ codes "#define INLINE static inline __attribute__((always_inline, unused))\n"
-    ++ codes "#if HALF == 65536\n"
+    ++ codes "#if HALF == 256\n"
+    ++ codes "typedef uint16_t word;\n"
+    ++ codes "INLINE word high(word a, word q) { return (uint32_t)a * q >> 16; }\n"
+    ++ codes "#elif HALF == 65536\n"
     ++ codes "typedef uint32_t word;\n"
     ++ codes "INLINE word high(word a, word q) { return (uint64_t)a * q >> 32; }\n"
     ++ codes "#elif HALF == 67108864\n"
@@ -38,7 +41,7 @@ one_lane_text =
     ++ codes "#if HALF == 67108864\n"
     ++ codes "INLINE vec mul(vec a, vec c, vec q) { return (a * c - high(a, q) * (word)M) & LOW52; }\n"
     ++ codes "#else\n"
-    ++ codes "INLINE vec mul(vec a, vec c, vec q) { return a * c - high(a, q) * (word)M; }\n"
+    ++ codes "INLINE vec mul(vec a, vec c, vec q) { return 1u * a * c - 1u * high(a, q) * (word)M; }\n"
     ++ codes "#endif\n"
     ++ codes "INLINE vec reduced(vec a, word k) { vec d = a - k; return a < d ? a : d; }\n"
     ++ codes "INLINE void tile(vec *b) { (void)b; }\n"
@@ -47,7 +50,7 @@ one_lane_text =
 -- P is how many words that is, and BY names an operation of the machine on it
 unfoldable pub part_text : List ℕ
 part_text =
-    codes "#elif (V == 2 || V == 4 || V == 8 || V == 16) && (HALF == 65536 || HALF == 67108864 || ROUGH)\n"
+    codes "#elif (V == 2 || V == 4 || V == 8 || V == 16) && (HALF < 4294967296 || ROUGH)\n"
     ++ codes "#define _MM_MALLOC_H_INCLUDED\n"
     ++ codes "#define __MM_MALLOC_H\n"
     ++ codes "#if defined __AVX2__\n"
@@ -57,7 +60,9 @@ part_text =
     ++ codes "#elif defined __SSE2__\n"
     ++ codes "#include <emmintrin.h>\n"
     ++ codes "#endif\n"
-    ++ codes "#if HALF == 65536\n"
+    ++ codes "#if HALF == 256\n"
+    ++ codes "#define WORDS(bytes) ((bytes) / 2)\n"
+    ++ codes "#elif HALF == 65536\n"
     ++ codes "#define WORDS(bytes) ((bytes) / 4)\n"
     ++ codes "#else\n"
     ++ codes "#define WORDS(bytes) ((bytes) / 8)\n"
@@ -83,7 +88,11 @@ unfoldable pub vector_text : List ℕ
 vector_text =
     codes "typedef word part __attribute__((vector_size(sizeof(word) * P)));\n"
     ++ codes "typedef part unaligned __attribute__((aligned(sizeof(word)), may_alias));\n"
-    ++ codes "typedef uint64_t wide __attribute__((vector_size(sizeof(word) * P)));\n"
+    ++ codes "#if HALF == 256\n"
+    ++ codes "typedef uint32_t wide __attribute__((vector_size(2 * sizeof(part))));\n"
+    ++ codes "#else\n"
+    ++ codes "typedef uint64_t wide __attribute__((vector_size(sizeof(part))));\n"
+    ++ codes "#endif\n"
     ++ codes "typedef struct { part p[V / P]; } vec;\n"
     ++ codes "#define PARTS(e) vec r; for (int i = 0; i < V / P; i++) r.p[i] = (e); return r\n"
     ++ codes "INLINE vec splat(word x) { PARTS((part){} + x); }\n"
@@ -116,11 +125,13 @@ exchange_text =
 -- a - k says which it is
 unfoldable pub vector_reduced_text : List ℕ
 vector_reduced_text =
-    codes "#if defined BITS && HALF == 65536 && defined __SSE4_1__\n"
+    codes "#if defined BITS && HALF == 256 && defined __SSE4_1__\n"
+    ++ codes "#define MINIMUM(a, b) (part)BY(min_epu16, BITS(a), BITS(b))\n"
+    ++ codes "#elif defined BITS && HALF == 65536 && defined __SSE4_1__\n"
     ++ codes "#define MINIMUM(a, b) (part)BY(min_epu32, BITS(a), BITS(b))\n"
-    ++ codes "#elif defined BITS && HALF != 65536 && defined __AVX512F__ && (P == WORDS(64) || defined __AVX512VL__)\n"
+    ++ codes "#elif defined BITS && HALF > 65536 && defined __AVX512F__ && (P == WORDS(64) || defined __AVX512VL__)\n"
     ++ codes "#define MINIMUM(a, b) (part)BY(min_epu64, BITS(a), BITS(b))\n"
-    ++ codes "#elif !defined BITS && HALF == 65536 && defined __has_builtin\n"
+    ++ codes "#elif !defined BITS && HALF <= 65536 && defined __has_builtin\n"
     ++ codes "#if __has_builtin(__builtin_elementwise_min)\n"
     ++ codes "#define MINIMUM __builtin_elementwise_min\n"
     ++ codes "#endif\n"
@@ -140,12 +151,15 @@ vector_reduced_text =
 unfoldable pub vector_low_text : List ℕ
 vector_low_text =
     codes "#ifdef BITS\n"
-    ++ codes "INLINE wide low(wide a, wide b) { return (wide)BY(mul_epu32, BITS(a), BITS(b)); }\n"
     ++ codes "INLINE part moduli(void) { part m = (part){} + (word)M; __asm__(\"\" : \"+v\"(m)); return m; }\n"
     ++ codes "#else\n"
+    ++ codes "INLINE part moduli(void) { return (part){} + (word)M; }\n"
+    ++ codes "#endif\n"
+    ++ codes "#if defined BITS && HALF > 256\n"
+    ++ codes "INLINE wide low(wide a, wide b) { return (wide)BY(mul_epu32, BITS(a), BITS(b)); }\n"
+    ++ codes "#elif HALF > 256\n"
     ++ codes "#define LOW 0xffffffffULL\n"
     ++ codes "INLINE wide low(wide a, wide b) { return (a & LOW) * (b & LOW); }\n"
-    ++ codes "INLINE part moduli(void) { return (part){} + (word)M; }\n"
     ++ codes "#endif\n"
 
 -- products in words of 52 bits: by an operation that gives the low or the high half of a product, or else by halves of
@@ -170,11 +184,16 @@ vector_fused_text =
     ++ codes "return (a * c - h * moduli()) & LOW52; }\n"
     ++ codes "#endif\n"
 
--- products in words of 32 and of 64 bits, and of registers
+-- products in words of 16, of 32 and of 64 bits, and of registers
 unfoldable pub vector_product_text : List ℕ
 vector_product_text =
     codes "#else\n"
-    ++ codes "#if HALF == 65536\n"
+    ++ codes "#if defined BITS && HALF == 256\n"
+    ++ codes "INLINE part halves(part a, part q) { return (part)BY(mulhi_epu16, BITS(a), BITS(q)); }\n"
+    ++ codes "#elif HALF == 256\n"
+    ++ codes "INLINE wide widened(part a) { return __builtin_convertvector(a, wide); }\n"
+    ++ codes "INLINE part halves(part a, part q) { return __builtin_convertvector(widened(a) * widened(q) >> 16, part); }\n"
+    ++ codes "#elif HALF == 65536\n"
     ++ codes "INLINE part halves(part a, part q) {\n"
     ++ codes "wide even = low((wide)a, (wide)q), odd = low((wide)a >> 32, (wide)q >> 32);\n"
     ++ codes "return PICKED((part)even, (part)odd, LOWER, 1); }\n"
@@ -224,7 +243,7 @@ lanes_text =
     ++ codes "#if HALF == 67108864\n"
     ++ codes "INLINE vec mul(vec a, vec c, vec q) { LANES((a.l[l] * c.l[l] - high(a.l[l], q.l[l]) * (word)M) & LOW52); }\n"
     ++ codes "#else\n"
-    ++ codes "INLINE vec mul(vec a, vec c, vec q) { LANES(a.l[l] * c.l[l] - high(a.l[l], q.l[l]) * (word)M); }\n"
+    ++ codes "INLINE vec mul(vec a, vec c, vec q) { LANES(1u * a.l[l] * c.l[l] - 1u * high(a.l[l], q.l[l]) * (word)M); }\n"
     ++ codes "#endif\n"
     ++ codes "INLINE word least(word a, word b) { return a < b ? a : b; }\n"
     ++ codes "INLINE vec reduced(vec a, word k) { LANES(least(a.l[l], a.l[l] - k)); }\n"

@@ -196,7 +196,7 @@ named_header_text name fresh p =
     let capitals = map capital name in
     word_header_text p ++ guard_text capitals ++ macros_text capitals p
     ++ first_values_text (callers_arrays_text fresh) fresh
-    ++ linkage_text (asked_text capitals name ++ declared_functions_text name (word_type_text (p.width.half == 65536)))
+    ++ linkage_text (asked_text capitals name ++ declared_functions_text name (word_type_text p.width.half))
 
 -- of a program that may read what is left over, or that does not
 abbrev pub words_text : TextForm → Bool → PlainWordProgram → List ℕ

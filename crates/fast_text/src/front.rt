@@ -7,7 +7,8 @@ ghost use Rattle.fast_text.specs.WordFront.{word_text, one_lane_text, part_text,
 use listing_text::{put_numbered, put_word};
 use std::alloc::AllocError;
 
-// The words: their type, and the high half of a product.
+// The words: their type, and the high half of a product. C computes with words of 16 bits as with int, which is why
+// products below begin with 1u.
 #[tactic(auto, unfolding(crate::specs::WordFront::word_text))]
 fn put_word_type(out: &mut Vec<u8>) -> Result<(), AllocError>
     ensures { OnOk result (out.new.items ≡ out.old.items ++ word_text) }
@@ -15,7 +16,10 @@ fn put_word_type(out: &mut Vec<u8>) -> Result<(), AllocError>
     out.extend_from_slice(
         b"#pragma GCC diagnostic ignored \"-Wpsabi\"
 #define INLINE static inline __attribute__((always_inline, unused))
-#if HALF == 65536
+#if HALF == 256
+typedef uint16_t word;
+INLINE word high(word a, word q) { return (uint32_t)a * q >> 16; }
+#elif HALF == 65536
 typedef uint32_t word;
 INLINE word high(word a, word q) { return (uint64_t)a * q >> 32; }
 #elif HALF == 67108864
@@ -51,7 +55,7 @@ INLINE vec neg(vec a, word k) { return k - a; }
 #if HALF == 67108864
 INLINE vec mul(vec a, vec c, vec q) { return (a * c - high(a, q) * (word)M) & LOW52; }
 #else
-INLINE vec mul(vec a, vec c, vec q) { return a * c - high(a, q) * (word)M; }
+INLINE vec mul(vec a, vec c, vec q) { return 1u * a * c - 1u * high(a, q) * (word)M; }
 #endif
 INLINE vec reduced(vec a, word k) { vec d = a - k; return a < d ? a : d; }
 INLINE void tile(vec *b) { (void)b; }
@@ -67,7 +71,7 @@ fn put_part(out: &mut Vec<u8>) -> Result<(), AllocError>
     ensures { OnOk result (out.new.items ≡ out.old.items ++ part_text) }
 {
     out.extend_from_slice(
-        b"#elif (V == 2 || V == 4 || V == 8 || V == 16) && (HALF == 65536 || HALF == 67108864 || ROUGH)
+        b"#elif (V == 2 || V == 4 || V == 8 || V == 16) && (HALF < 4294967296 || ROUGH)
 #define _MM_MALLOC_H_INCLUDED
 #define __MM_MALLOC_H
 #if defined __AVX2__
@@ -77,7 +81,9 @@ fn put_part(out: &mut Vec<u8>) -> Result<(), AllocError>
 #elif defined __SSE2__
 #include <emmintrin.h>
 #endif
-#if HALF == 65536
+#if HALF == 256
+#define WORDS(bytes) ((bytes) / 2)
+#elif HALF == 65536
 #define WORDS(bytes) ((bytes) / 4)
 #else
 #define WORDS(bytes) ((bytes) / 8)
@@ -109,7 +115,11 @@ fn put_vector(out: &mut Vec<u8>) -> Result<(), AllocError>
     out.extend_from_slice(
         b"typedef word part __attribute__((vector_size(sizeof(word) * P)));
 typedef part unaligned __attribute__((aligned(sizeof(word)), may_alias));
-typedef uint64_t wide __attribute__((vector_size(sizeof(word) * P)));
+#if HALF == 256
+typedef uint32_t wide __attribute__((vector_size(2 * sizeof(part))));
+#else
+typedef uint64_t wide __attribute__((vector_size(sizeof(part))));
+#endif
 typedef struct { part p[V / P]; } vec;
 #define PARTS(e) vec r; for (int i = 0; i < V / P; i++) r.p[i] = (e); return r
 INLINE vec splat(word x) { PARTS((part){} + x); }
@@ -154,11 +164,13 @@ fn put_vector_reduced(out: &mut Vec<u8>) -> Result<(), AllocError>
     ensures { OnOk result (out.new.items ≡ out.old.items ++ vector_reduced_text) }
 {
     out.extend_from_slice(
-        b"#if defined BITS && HALF == 65536 && defined __SSE4_1__
+        b"#if defined BITS && HALF == 256 && defined __SSE4_1__
+#define MINIMUM(a, b) (part)BY(min_epu16, BITS(a), BITS(b))
+#elif defined BITS && HALF == 65536 && defined __SSE4_1__
 #define MINIMUM(a, b) (part)BY(min_epu32, BITS(a), BITS(b))
-#elif defined BITS && HALF != 65536 && defined __AVX512F__ && (P == WORDS(64) || defined __AVX512VL__)
+#elif defined BITS && HALF > 65536 && defined __AVX512F__ && (P == WORDS(64) || defined __AVX512VL__)
 #define MINIMUM(a, b) (part)BY(min_epu64, BITS(a), BITS(b))
-#elif !defined BITS && HALF == 65536 && defined __has_builtin
+#elif !defined BITS && HALF <= 65536 && defined __has_builtin
 #if __has_builtin(__builtin_elementwise_min)
 #define MINIMUM __builtin_elementwise_min
 #endif
@@ -184,12 +196,15 @@ fn put_vector_low(out: &mut Vec<u8>) -> Result<(), AllocError>
 {
     out.extend_from_slice(
         b"#ifdef BITS
-INLINE wide low(wide a, wide b) { return (wide)BY(mul_epu32, BITS(a), BITS(b)); }
 INLINE part moduli(void) { part m = (part){} + (word)M; __asm__(\"\" : \"+v\"(m)); return m; }
 #else
+INLINE part moduli(void) { return (part){} + (word)M; }
+#endif
+#if defined BITS && HALF > 256
+INLINE wide low(wide a, wide b) { return (wide)BY(mul_epu32, BITS(a), BITS(b)); }
+#elif HALF > 256
 #define LOW 0xffffffffULL
 INLINE wide low(wide a, wide b) { return (a & LOW) * (b & LOW); }
-INLINE part moduli(void) { return (part){} + (word)M; }
 #endif
 ",
     )
@@ -223,14 +238,19 @@ return (a * c - h * moduli()) & LOW52; }
     )
 }
 
-// Products in words of 32 and of 64 bits, and of registers.
+// Products in words of 16, of 32 and of 64 bits, and of registers.
 #[tactic(auto, unfolding(crate::specs::WordFront::vector_product_text))]
 fn put_vector_product(out: &mut Vec<u8>) -> Result<(), AllocError>
     ensures { OnOk result (out.new.items ≡ out.old.items ++ vector_product_text) }
 {
     out.extend_from_slice(
         b"#else
-#if HALF == 65536
+#if defined BITS && HALF == 256
+INLINE part halves(part a, part q) { return (part)BY(mulhi_epu16, BITS(a), BITS(q)); }
+#elif HALF == 256
+INLINE wide widened(part a) { return __builtin_convertvector(a, wide); }
+INLINE part halves(part a, part q) { return __builtin_convertvector(widened(a) * widened(q) >> 16, part); }
+#elif HALF == 65536
 INLINE part halves(part a, part q) {
 wide even = low((wide)a, (wide)q), odd = low((wide)a >> 32, (wide)q >> 32);
 return PICKED((part)even, (part)odd, LOWER, 1); }
@@ -292,7 +312,7 @@ INLINE vec neg(vec a, word k) { LANES(k - a.l[l]); }
 #if HALF == 67108864
 INLINE vec mul(vec a, vec c, vec q) { LANES((a.l[l] * c.l[l] - high(a.l[l], q.l[l]) * (word)M) & LOW52); }
 #else
-INLINE vec mul(vec a, vec c, vec q) { LANES(a.l[l] * c.l[l] - high(a.l[l], q.l[l]) * (word)M); }
+INLINE vec mul(vec a, vec c, vec q) { LANES(1u * a.l[l] * c.l[l] - 1u * high(a.l[l], q.l[l]) * (word)M); }
 #endif
 INLINE word least(word a, word b) { return a < b ? a : b; }
 INLINE vec reduced(vec a, word k) { LANES(least(a.l[l], a.l[l] - k)); }

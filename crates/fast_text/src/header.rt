@@ -80,7 +80,11 @@ pub(crate) fn put_lengths(
 fn bytes_of_word(half: u64) -> u64
     ensures { result ≡ bytes_of_word half }
 {
-    if half == 65536 { 4 } else { 8 }
+    match half {
+        256 => 2,
+        65536 => 4,
+        _ => 8,
+    }
 }
 
 /// Writes how many bytes a line of words has, which have a base with this square root.
@@ -242,20 +246,28 @@ fn put_functions_of(
     put_word(out, b"#ifdef __cplusplus\n}\n#endif\n#endif\n")
 }
 
-/// Writes the functions over words of 32 bits, or over others.
+// The type of words that have a base with this square root.
+fn word_type(half: u64) -> &'static str
+    ensures { result.now ≡ word_type_text half }
+{
+    match half {
+        256 => "uint16_t",
+        65536 => "uint32_t",
+        _ => "uint64_t",
+    }
+}
+
+/// Writes the functions over words that have a base with this square root.
 pub(crate) fn put_linked(
     out: &mut Vec<u8>,
     capitals: &[u8],
     name: &[u8],
-    narrow: bool,
+    half: u64,
 ) -> Result<(), AllocError>
     ensures { OnOk result (out.new.items ≡ out.old.items ++ linkage_text
         (asked_text capitals.now name.now
-        ++ declared_functions_text name.now (word_type_text narrow))) }
+        ++ declared_functions_text name.now (word_type_text half))) }
 {
-    if narrow {
-        put_functions_of(out, capitals, name, b"uint32_t")
-    } else {
-        put_functions_of(out, capitals, name, b"uint64_t")
-    }
+    let word = word_type(half);
+    put_functions_of(out, capitals, name, word.as_bytes())
 }

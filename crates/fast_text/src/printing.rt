@@ -260,7 +260,7 @@ fn print_header(
     put_guard(&mut out, &capitals)?;
     put_macros(&mut out, &capitals, program)?;
     put_callers_first_values(&mut out, fresh)?;
-    put_linked(&mut out, &capitals, name, program.half == 65536)?;
+    put_linked(&mut out, &capitals, name, program.half)?;
     Ok(out)
 }
 

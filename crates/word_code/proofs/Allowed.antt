@@ -5,8 +5,8 @@ use Rattle.std.proofs.Common.{mul-le-mul_left}
 use Rattle.std.proofs.Math.Nat.{min-le_right, le-min, div-mul-le_self}
 use Rattle.std.proofs.lemmas.Nat.{le-div}
 use Rattle.word_code.specs.declared.laziness.WordSize.{WordSize}
-use Rattle.word_code.specs.declared.laziness.WordSize.TheVariants.{Of32, Of52, Of64}
-use Rattle.word_code.specs.Laziness.{allows, laziness_for, lazy_within, limit_within, middle, narrow, wide}
+use Rattle.word_code.specs.declared.laziness.WordSize.TheVariants.{Of16, Of32, Of52, Of64}
+use Rattle.word_code.specs.Laziness.{allows, laziness_for, lazy_within, limit_within, middle, narrow, short, wide}
 use Rattle.word_code.specs.Laws.{IsLazyWithin}
 use Rattle.word_code.specs.Words.{Width, base_of, sums_of, product_bound}
 use Rattle.word_code.proofs.Arithmetic.{two_at_least}
@@ -31,6 +31,11 @@ within w greatest m half base sums few some enough =
       of_b = (one, product);
     }
 
+short_within : (m : ℕ) → 2 ≤ m → m < 32768 → IsLazyWithin (short m) m
+short_within m some small =
+    within (record { half = 256; rough = false }) 65535 m (omega arith) (omega arith) (omega arith) (omega arith)
+    (omega (arith, some)) (omega (arith, small))
+
 narrow_within : (m : ℕ) → 2 ≤ m → m < 2147483648 → IsLazyWithin (narrow m) m
 narrow_within m some small =
     within (record { half = 65536; rough = false }) 4294967295 m (omega arith) (omega arith) (omega arith) (omega arith)
@@ -53,6 +58,7 @@ wide_within false m some small =
 
 pub lazy_for : (size : WordSize) (m lanes : ℕ) → 2 ≤ m → m < 2 ^ 62 → allows size m ≡ true →
     IsLazyWithin (laziness_for size m lanes) m
+lazy_for Of16 m lanes some small allowed = short_within m some (ltb-true m 32768 allowed)
 lazy_for Of32 m lanes some small allowed = narrow_within m some (ltb-true m 2147483648 allowed)
 lazy_for Of52 m lanes some small allowed = middle_within m some (ltb-true m 2251799813685248 allowed)
 lazy_for Of64 m lanes some small allowed = wide_within (nat_lt 1 lanes) m some small

@@ -3,7 +3,7 @@
 use Rattle.std.specs.Prelude.{ℕ, ◌/◌, ◌%◌, ◌==◌, ◌&&◌, ◌||◌, min, nat_lt, Bool, true, false, Option, Some, None}
 use Rattle.std.specs.Prelude.{if◌then◌else◌}
 use Rattle.word_code.specs.declared.laziness.WordSize.{WordSize}
-use Rattle.word_code.specs.declared.laziness.WordSize.TheVariants.{Of32, Of52, Of64}
+use Rattle.word_code.specs.declared.laziness.WordSize.TheVariants.{Of16, Of32, Of52, Of64}
 use Rattle.icode.specs.Plain.{PlainProgram}
 use Rattle.word_code.specs.WordProgram.{PlainWordProgram}
 use Rattle.word_code.specs.Words.{Width, product_bound}
@@ -21,6 +21,10 @@ lazy_within width limit =
       limit = limit;
     }
 
+-- in words of 16 bits
+abbrev pub short : ℕ → PlainLaziness
+short modulus = lazy_within (record { half = 256; rough = false }) (limit_within 65535 modulus)
+
 -- in words of 32 bits
 abbrev pub narrow : ℕ → PlainLaziness
 narrow modulus = lazy_within (record { half = 65536; rough = false }) (limit_within 4294967295 modulus)
@@ -36,6 +40,7 @@ wide modulus lanes =
 
 -- the modulus is less than half of the words' base
 abbrev pub allows : WordSize → ℕ → Bool
+allows Of16 modulus = nat_lt modulus 32768
 allows Of32 modulus = nat_lt modulus 2147483648
 allows Of52 modulus = nat_lt modulus 2251799813685248
 allows Of64 modulus = true
@@ -51,6 +56,7 @@ size_for (Some size) p = size
 size_for None p = if takes_narrow p then Of32 else Of64
 
 abbrev pub laziness_for : WordSize → ℕ → ℕ → PlainLaziness
+laziness_for Of16 modulus lanes = short modulus
 laziness_for Of32 modulus lanes = narrow modulus
 laziness_for Of52 modulus lanes = middle modulus
 laziness_for Of64 modulus lanes = wide modulus lanes

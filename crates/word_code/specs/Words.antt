@@ -12,7 +12,8 @@ base_of w = w.half * w.half
 
 -- what sums and differences wrap at: words of 52 bits stand in words of 64
 abbrev pub sums_of : Width → ℕ
-sums_of w = if w.half == 65536 then 4294967296 else 18446744073709551616
+sums_of w =
+    if w.half == 256 then 65536 else (if w.half == 65536 then 4294967296 else 18446744073709551616)
 
 abbrev pub wrapped_sum : ℕ → ℕ → ℕ → ℕ
 wrapped_sum base a b = (a + b) % base

@@ -1,10 +1,10 @@
-// How lazy a program may be. Words of 32, 52 or 64 bits leave room for some multiples of the modulus, and each bound that is larger
+// How lazy a program may be. Words of 16, 32, 52 or 64 bits leave room for some multiples of the modulus, and each bound that is larger
 // saves reductions (Harvey's lazy butterflies). The words that stay in A and B are kept as small as products leave them, since
 // another phase begins with them. `make_fast` is the crate's main call: a size of words, its laziness, and the program on words.
 
 ghost use Rattle.std.specs.Prelude.{◌≡◌, ◌^◌, ◌<◌, ◌≤◌, IfOk, IsTrue};
 ghost use Rattle.icode.specs.Program.{plain_program};
-ghost use Rattle.word_code.specs.Laziness.{limit_within, narrow, middle, wide, allows, takes_narrow, size_for, laziness_for, fast_words};
+ghost use Rattle.word_code.specs.Laziness.{limit_within, short, narrow, middle, wide, allows, takes_narrow, size_for, laziness_for, fast_words};
 ghost use Rattle.word_code.specs.Laws.{IsLazyWithin};
 ghost use Rattle.word_code.specs.Same.{LeavesTheSame, OrderIsFreeOf, FitsAs};
 ghost use Rattle.word_code.specs.Views.{lazy_of, plain_word_program};
@@ -18,6 +18,8 @@ use std::alloc::Global;
 /// The size of the words that a program is to have.
 #[derive(Clone, Copy, Drop, PartialEq, Eq, Debug)]
 pub enum WordSize {
+    /// 16 bits.
+    Of16,
     /// 32 bits.
     Of32,
     /// 52 bits, in words of 64 for sums.
@@ -32,6 +34,7 @@ impl WordSize {
         ensures { result ≡ allows self.now modulus }
     {
         match self {
+            WordSize::Of16 => modulus < 0x8000,
             WordSize::Of32 => modulus < 0x8000_0000,
             WordSize::Of52 => modulus < 0x8_0000_0000_0000,
             WordSize::Of64 => true,
@@ -72,7 +75,21 @@ fn limit_within(greatest: u64, modulus: u64) -> u64
     ENOUGH.min(greatest / modulus)
 }
 
-// For words of 32 bits. A and B stay below what products are below.
+// For words of 16 bits. A and B stay below what products are below.
+fn short(modulus: u64) -> Laziness
+    requires { 2 ≤ modulus }
+    ensures { lazy_of result ≡ short modulus }
+{
+    Laziness {
+        half: 0x100,
+        rough: false,
+        keep_a: 2,
+        keep_b: 2,
+        limit: limit_within(0xffff, modulus),
+    }
+}
+
+// For words of 32 bits.
 fn narrow(modulus: u64) -> Laziness
     requires { 2 ≤ modulus }
     ensures { lazy_of result ≡ narrow modulus }
@@ -126,6 +143,7 @@ pub fn laziness_for(size: WordSize, modulus: u64, lanes: u64) -> Laziness
     ensures half { result.half ≤ 2 ^ 32 }
 {
     match size {
+        WordSize::Of16 => short(modulus),
         WordSize::Of32 => narrow(modulus),
         WordSize::Of52 => middle(modulus),
         WordSize::Of64 => wide(modulus, lanes),

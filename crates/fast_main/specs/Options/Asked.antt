@@ -6,7 +6,7 @@ use Rattle.std.specs.Str.{bytes_eq}
 use Rattle.clap.specs.Words.{Row, Text, fault_of, first_of, matches_of}
 use Rattle.clap.specs.Walk.{is_empty}
 use Rattle.word_code.specs.declared.laziness.WordSize.{WordSize}
-use Rattle.word_code.specs.declared.laziness.WordSize.TheVariants.{Of32, Of52, Of64}
+use Rattle.word_code.specs.declared.laziness.WordSize.TheVariants.{Of16, Of32, Of52, Of64}
 use Rattle.fast_text.specs.TextForm.{TextForm, with_arrays, named_function, named_header}
 use Rattle.fast_main.specs.Options.CommandLine.{fast_app}
 use Rattle.fast_main.specs.Options.Names.{is_free_name}
@@ -15,9 +15,10 @@ use Rattle.fast_main.specs.Options.Names.{is_free_name}
 
 abbrev pub size_named : Text → Option WordSize
 size_named word =
-    if bytes_eq word (codes "32") then Some Of32
+    if bytes_eq word (codes "16") then Some Of16
+    else (if bytes_eq word (codes "32") then Some Of32
     else (if bytes_eq word (codes "52") then Some Of52
-    else (if bytes_eq word (codes "64") then Some Of64 else None))
+    else (if bytes_eq word (codes "64") then Some Of64 else None)))
 
 -- without the option no size is asked for
 abbrev pub size_in : List Row → Option (Option WordSize)

@@ -48,7 +48,7 @@ words_of_text =
     codes "add" ∷ codes "halves" ∷ codes "high" ∷ codes "least" ∷ codes "load" ∷ codes "low" ∷ codes "moduli"
     ∷ codes "mul" ∷ codes "mul_part" ∷ codes "neg" ∷ codes "part" ∷ codes "reduced" ∷ codes "reduced_part"
     ∷ codes "splat" ∷ codes "store" ∷ codes "sub" ∷ codes "swap" ∷ codes "tile" ∷ codes "unaligned" ∷ codes "vec"
-    ∷ codes "wide" ∷ codes "word" ∷ codes "BITS" ∷ codes "BY" ∷ codes "CHECK" ∷ codes "EACH" ∷ codes "EXCHANGE"
+    ∷ codes "wide" ∷ codes "widened" ∷ codes "word" ∷ codes "BITS" ∷ codes "BY" ∷ codes "CHECK" ∷ codes "EACH" ∷ codes "EXCHANGE"
     ∷ codes "EXCHANGED" ∷ codes "FIRST" ∷ codes "FMA" ∷ codes "HALF" ∷ codes "INLINE" ∷ codes "LANES"
     ∷ codes "LAST" ∷ codes "LOW" ∷ codes "LOW52" ∷ codes "LOWER" ∷ codes "M" ∷ codes "MINIMUM" ∷ codes "P"
     ∷ codes "PART" ∷ codes "PARTS" ∷ codes "PICKED" ∷ codes "ROUGH" ∷ codes "TOP_BIT" ∷ codes "UPPER" ∷ codes "V"

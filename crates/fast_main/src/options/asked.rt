@@ -46,6 +46,7 @@ fn size_named(word: &str) -> Option<WordSize>
     ensures { result ≡ size_named word.now }
 {
     match word {
+        "16" => Some(WordSize::Of16),
         "32" => Some(WordSize::Of32),
         "52" => Some(WordSize::Of52),
         "64" => Some(WordSize::Of64),

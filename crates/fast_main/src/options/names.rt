@@ -69,7 +69,7 @@ const WORDS_OF_C: [&str; 59] = [
 ];
 
 // The text's functions and types, and its macros.
-const WORDS_OF_TEXT: [&str; 48] = [
+const WORDS_OF_TEXT: [&str; 49] = [
     "add",
     "halves",
     "high",
@@ -91,6 +91,7 @@ const WORDS_OF_TEXT: [&str; 48] = [
     "unaligned",
     "vec",
     "wide",
+    "widened",
     "word",
     "BITS",
     "BY",

@@ -11,7 +11,7 @@ returns c =
     let p = plain_word_program c.args.program.now in
     let name = c.args.name.now in
     let capitals = map capital name in
-    let type = word_type_text (p.width.half == 65536) in
+    let type = word_type_text p.width.half in
     let first = c.put_first.new.out.items in
     let guard = c.put_guard.new.out.items in
     let macros = c.put_macros.new.out.items in
