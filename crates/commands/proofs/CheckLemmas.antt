@@ -26,7 +26,7 @@ use Rattle.commands.proofs.DocumentLemmas.{generate_refusal}
 use Rattle.commands.proofs.Inputs.StageLemmas.{stage_refused, stage_told}
 use Rattle.io_edge.proofs.ToldLemmas.{over_left}
 use Rattle.commands.proofs.Inputs.OutcomeLemmas.{answered_meets, broken_meets, cut_meets, meets_nothing}
-use Rattle.commands.proofs.Inputs.OutcomeLemmas.{told_nothing}
+use Rattle.commands.proofs.Inputs.OutcomeLemmas.{all_few, told_nothing}
 
 abbrev pub judges : Request → Work
 judges request = judging (IsVerdict request)
@@ -42,31 +42,38 @@ check_barred request room before out fault barred =
 
 -- the rest can't be judged
 unread_told : (request : Request) (room : ℕ) (before after out : Option (List ℕ)) (read : List ℕ) (fault : RestFault)
-    → Consumes before after read → GivesRest certificate_limit read (IsOver after) (Err fault)
+    → certificate_limit ≤ room → Consumes before after read
+    → GivesRest certificate_limit read (IsOver after) (Err fault)
     → SourceMeets (judges request room) before after out out (status_of_rest fault)
-unread_told request room before after out read rest_fault.TooLong consumed given = record {
+unread_told request room before after out read rest_fault.TooLong fits consumed given = record {
   read = read;
   consumed = consumed;
+  few = let few : length read ≤ room + 1 = omega (arith, fits, given) in few;
   meets = λ rest tells.
       let count : length (read ++ rest) ≡ length read + length rest = length-append read rest in
       let long : certificate_limit < length (read ++ rest) = omega (arith, count, given) in
       meets_nothing (judges request room) (read ++ rest) rest out (status_of_rest rest_fault.TooLong)
       (λ d. inl (long, refl, refl)) (λ e. cc) (λ e. cc);
 }
-unread_told request room before after out read rest_fault.ReadFault consumed given = record {
+unread_told request room before after out read rest_fault.ReadFault fits consumed given = record {
   read = read;
   consumed = consumed;
+  few = let few : length read ≤ room + 1 = omega (arith, fits, given) in few;
   meets = λ rest tells.
       broken_meets (judges request room) (read ++ rest) rest out out (read, [], refl, (given, refl), Appends-nil out);
 }
-unread_told request room before after out read rest_fault.NoMemory consumed given = told_nothing (judges request room) before after out read consumed
+unread_told request room before after out read rest_fault.NoMemory fits consumed given =
+    let few : length read ≤ room + 1 = omega (arith, fits, given) in
+    told_nothing (judges request room) before after out read consumed few
 
 pub check_unread : (request : Request) (room : ℕ) (before after out : Option (List ℕ)) (read : List ℕ)
     (fault : RestFault)
-    → IsAdmitted request → Consumes before after read → GivesRest certificate_limit read (IsOver after) (Err fault)
+    → certificate_limit ≤ room → IsAdmitted request → Consumes before after read
+    → GivesRest certificate_limit read (IsOver after) (Err fault)
     → SourceMeets (checking request room) before after out out (status_of_rest fault)
-check_unread request room before after out read fault there consumed given =
-    stage_told (fitting request) judges room request before after out out (status_of_rest fault) (refl, there) (unread_told request room before after out read fault consumed given)
+check_unread request room before after out read fault fits there consumed given =
+    stage_told (fitting request) judges room request before after out out (status_of_rest fault) (refl, there)
+    (all_few room) (unread_told request room before after out read fault fits consumed given)
 
 -- the rest of the input is a text with this verdict
 pub record IsFound (request : Request) (before after : Option (List ℕ)) (found : Verdict) : Type 0 where
@@ -104,13 +111,15 @@ judged_meets request room bytes left out out' found few judged w =
 
 -- a rest that was judged
 pub check_judged : (request : Request) (room : ℕ) (before after out out' : Option (List ℕ)) (found : Verdict)
-    → IsAdmitted request → IsFound request before after found → Appends out out' (verdict_text found)
+    → certificate_limit ≤ room → IsAdmitted request → IsFound request before after found
+    → Appends out out' (verdict_text found)
     → SourceMeets (checking request room) before after out out' (status_of_verdict found)
-check_judged request room before after out out' found there f w =
+check_judged request room before after out out' found fits there f w =
     stage_told (fitting request) judges room request before after out out' (status_of_verdict found) (refl, there)
-    (record {
+    (all_few room) (record {
       read = f.read;
       consumed = f.consumed;
+      few = let few : length f.read ≤ room + 1 = omega (arith, fits, f.short) in few;
       meets = λ rest tells.
           let whole : f.read ++ rest ≡ f.read =
           ap (λ l. f.read ++ l) (over_left after rest tells f.end) ∙ append-nil f.read in
@@ -121,13 +130,15 @@ check_judged request room before after out out' found there f w =
 
 -- a rest that was judged right, and the line that says so was not written whole
 pub check_cut : (request : Request) (room : ℕ) (before after out out' : Option (List ℕ)) (cost : ℕ)
-    → IsAdmitted request → IsFound request before after (verdict.Least cost) → AppendsPrefix out out' (least_line cost)
-    → SourceMeets (checking request room) before after out out' WriteFault
-check_cut request room before after out out' cost there f w =
-    stage_told (fitting request) judges room request before after out out' WriteFault (refl, there) (record {
+    → certificate_limit ≤ room → IsAdmitted request → IsFound request before after (verdict.Least cost)
+    → AppendsPrefix out out' (least_line cost) → SourceMeets (checking request room) before after out out' WriteFault
+check_cut request room before after out out' cost fits there f w =
+    stage_told (fitting request) judges room request before after out out' WriteFault (refl, there)
+    (all_few room) (record {
       read = f.read;
       consumed = f.consumed;
+      few = let few : length f.read ≤ room + 1 = omega (arith, fits, f.short) in few;
       meets = λ rest tells.
-          cut_meets (judges request room) f.read rest (least_line cost) out out'
-          (over_left after rest tells f.end, f.short, (verdict.Least cost, f.judged, refl, refl)) w;
+          cut_meets (judges request room) f.read rest (least_line cost) out out' w
+          (over_left after rest tells f.end, f.short, (verdict.Least cost, f.judged, refl, refl));
     })

@@ -74,4 +74,4 @@ pub document_cut : (wanted : Document) (request : Request) (room : ℕ) (bytes :
     → Meets (staged (chosen request) (document_work wanted) room) bytes bytes out out' WriteFault
 document_cut wanted request room bytes out out' text is wrote =
     stage_meets (chosen request) (document_work wanted) room is.0 bytes bytes out out' WriteFault is.1
-    (cut_meets (document_work wanted is.0 room) [] bytes text out out' (refl, is.2) wrote)
+    (cut_meets (document_work wanted is.0 room) [] bytes text out out' wrote (refl, is.2))

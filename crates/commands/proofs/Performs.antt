@@ -1,5 +1,5 @@
 -- From what comes after the line of a request to the whole input.
-use Rattle.std.proofs.Common.{ℕ, List, []}
+use Rattle.std.proofs.Common.{ℕ, ◌≤◌, ◌+◌, List, [], arith}
 use Rattle.matrix_meaning.specs.declared.Request.{Request}
 use Rattle.spiral_words.specs.declared.Document.{Document}
 use Rattle.spiral_words.specs.declared.Document.TheVariants as document
@@ -17,6 +17,7 @@ use Rattle.commands.specs.Input.Outcomes.{Outcomes}
 use Rattle.commands.specs.Input.Stage.{◌>>=◌}
 use Rattle.commands.proofs.CheckLemmas.{checking, judges}
 use Rattle.commands.proofs.Inputs.Nested.{no_unit}
+use Rattle.commands.proofs.Inputs.OutcomeLemmas.{all_few}
 use Rattle.commands.proofs.Inputs.Within.{Within, within_then, front_within, front_join}
 
 -- what is right by the line of a request, and then after it
@@ -24,7 +25,20 @@ abbrev pub by_line : RequestCommand → Outcomes
 by_line command = by_front (line 256) (λ text. spelt text >>= turned (procs_named command)) (work_for command)
 
 same_within : (a : Outcomes) → Within a a
-same_within a = record { answer = λ bytes s t p. p; broken = λ read ended t p. p; cut = λ read left t p. p }
+same_within a = record {
+  most = omega arith;
+  answer = λ bytes s t p. p;
+  broken = λ read ended t p. p;
+  cut = λ read left t taken p. p;
+}
+
+-- what comes after the line is read within the room for it
+pub performs_within : (command : RequestCommand) (request : Request) (room : ℕ) →
+    (work_for command request room).most ≤ room + 1
+performs_within (command.Writes wanted) request room = all_few room
+performs_within (command.Runs order) request room = all_few room
+performs_within (command.Traces order) request room = all_few room
+performs_within command.Judges request room = all_few room
 
 -- with the tree that is chosen
 planned_within : (names : List ℕ) (work : Planned → Work)

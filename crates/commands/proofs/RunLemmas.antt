@@ -45,6 +45,7 @@ use Rattle.commands.proofs.DocumentLemmas.{with_tree}
 use Rattle.commands.proofs.Programs.{IsGoodCode, code_made, good_code, program_modulus, program_procs, program_size}
 use Rattle.commands.proofs.Requests.{limits}
 use Rattle.commands.proofs.Inputs.DataLemmas.{lines_equal, turns_below}
+use Rattle.commands.proofs.Inputs.OutcomeLemmas.{all_few}
 use Rattle.commands.proofs.Inputs.StageLemmas.{stage_told}
 use Rattle.commands.proofs.Inputs.Within.{told_within}
 use Rattle.commands.proofs.StreamLemmas.{mapping_within}
@@ -136,9 +137,9 @@ run_told request program front way room before after out out' status in_range ma
     let text : List ℕ → List ℕ = order_text false way program.procs (code_of program) in
     let Writes : List (List ℕ) → List ℕ → Type 0 = λ vectors t. t ≡ front.items ++ texts text vectors in
     let Wanted : List (List ℕ) → List ℕ → Type 0 = λ vectors t. t ≡ lines (asked_of request) vectors in
-    stage_told (chosen request) run_work room (with_tree request made.0) before after out out' status (refl, made.1)
+    stage_told (chosen request) run_work room (with_tree request made.0) before after out out' status (refl, made.1) (all_few room)
     (told_within (mapping all request.size request.modulus Writes room) (mapping all request.size request.modulus Wanted room) before after out out' status
-    (mapping_within request.size request.modulus Writes Wanted room (λ ts t written.
+    (mapping_within request.size request.modulus Writes Wanted room (limits request in_range).size (λ ts t written.
     written ∙ ap (λ l. l ++ texts text (vectors_of request.size request.modulus ts)) alone ∙ order_lines way request program ts in_range made none))
     (sized request program Writes room before after out out' status in_range made p))
 
@@ -154,9 +155,9 @@ trace_told request program front way room before after out out' status in_range 
     ap (λ n. order_text true way n (code_of program)) (program_procs request program in_range made) ∙ ap (λ (q : PlainProgram). order_text true way request.procs (plain_code q)) made.2 in
     let Writes : List (List ℕ) → List ℕ → Type 0 = λ vectors t. t ≡ front.items ++ texts text vectors in
     let Wanted : List (List ℕ) → List ℕ → Type 0 = λ vectors t. t ≡ listing_of own ++ run_lines way (with_tree request made.0) vectors in
-    stage_told (chosen request) (trace_work way) room (with_tree request made.0) before after out out' status (refl, made.1)
+    stage_told (chosen request) (trace_work way) room (with_tree request made.0) before after out out' status (refl, made.1) (all_few room)
     (told_within (mapping all request.size request.modulus Writes room) (mapping all request.size request.modulus Wanted room) before after out out' status
-    (mapping_within request.size request.modulus Writes Wanted room (λ ts t written.
+    (mapping_within request.size request.modulus Writes Wanted room (limits request in_range).size (λ ts t written.
     let vectors = vectors_of request.size request.modulus ts in
     written ∙ ap (λ l. l ++ texts text vectors) (listed ∙ ap listing_of made.2) ∙ ap (λ (f : List ℕ → List ℕ). listing_of own ++ texts f vectors) same))
     (sized request program Writes room before after out out' status in_range made p))

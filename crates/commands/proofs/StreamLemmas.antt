@@ -1,6 +1,6 @@
 -- What a run of a program over the data comes to.
 use Rattle.std.proofs.Common.{◌≡◌, ◌≢◌, ◌<◌, ◌≤◌, ◌-◌, ℕ, Bool, true, false, List, [], ◌++◌, None, Some, Err, Result}
-use Rattle.std.proofs.Common.{length, refl, sym, ap, subst, ◌∙◌, arith, append-nil, nat_lt, inl, take}
+use Rattle.std.proofs.Common.{length, refl, sym, ap, subst, ◌∙◌, arith, append-nil, nat_lt, inl, inr, take}
 use Rattle.std.specs.declared.option.Option.{Option}
 use Rattle.std.specs.Io.KnownBytes.{Appends}
 use Rattle.buffer_machine.specs.Listed as listed
@@ -15,6 +15,7 @@ use Rattle.io_edge.specs.Feed.{Fed, limit}
 use Rattle.io_edge.specs.Taken.{AppendsPrefix}
 use Rattle.schedules.specs.Schedule.{Plan}
 use Rattle.schedules.specs.Turns.{turns_of}
+use Rattle.runs.proofs.CutLemmas.{vectors_ahead}
 use Rattle.runs.proofs.StreamLemmas.{vectors_few}
 use Rattle.runs.specs.Stream.{Streams, bad_after, good_front, texts, vectors_of, vectors_seen}
 use Rattle.runs.specs.Texts.{buffered_text, run_text}
@@ -25,13 +26,13 @@ use Rattle.spiral_words.specs.declared.Order.{Order}
 use Rattle.spiral_words.specs.declared.Order.TheVariants as order
 use Rattle.spiral_words.specs.declared.statuses.status.Status.TheVariants.{WriteFault}
 use Rattle.commands.specs.Equations.Front.{Work}
-use Rattle.commands.specs.Equations.Works.{all, mapping}
+use Rattle.commands.specs.Equations.Works.{StopsAtLast, all, mapping}
 use Rattle.commands.specs.OrderText.{order_of, order_text}
 use Rattle.commands.specs.Prepared.{stream_text, stream_work}
 use Rattle.commands.specs.Input.Outcomes.{SourceMeets}
 use Rattle.commands.specs.declared.streams.Prepared.{Prepared}
 use Rattle.commands.proofs.Inputs.DataLemmas.{streams_told}
-use Rattle.commands.proofs.Inputs.OutcomeLemmas.{cut_meets, unread_meets}
+use Rattle.commands.proofs.Inputs.OutcomeLemmas.{all_few, cut_meets, unread_meets}
 use Rattle.commands.proofs.Inputs.Within.{Within}
 
 -- The front is not written whole
@@ -47,8 +48,8 @@ front_cut made way room before out out' wrote =
     let alone : made.front.items ≡ stream_text made way (vectors_of size modulus []) =
     sym (ap (stream_text made way) none ∙ append-nil made.front.items) in
     unread_meets (stream_work made way room) before out out' WriteFault (λ bytes.
-    cut_meets (stream_work made way room) [] bytes made.front.items out out'
-    (record { few = omega arith; good = refl }, inl refl, alone) wrote)
+    cut_meets (stream_work made way room) [] bytes made.front.items out out' wrote
+    (record { few = omega arith; good = refl }, inl refl, alone, inl refl))
 
 -- The machines
 
@@ -66,6 +67,12 @@ of_code : (front : List ℕ) (code : Code) (program : Program) (text : Code → 
 of_code front code program text room before after start out' result same p =
     subst (λ (k : Code). SourceMeets (work_by front k text room) before after start out' (status_of_stream result)) same p
 
+-- a program's code has a size
+code_has_size : (code : Code) (program : Program) → code ≡ code_of program → 0 < code.size
+code_has_size code program same =
+    let size : code.size ≡ program.size = ap (λ (k : Code). k.size) same in
+    omega (arith, size, program.header.of_size.0)
+
 pub turns_told : (made : Prepared) (schedule : Plan) (code : Code) (old new : Fed)
     (before after start out out' : Option (List ℕ)) (first last : State)
     (result : Result (Unit {0}) StreamFault)
@@ -80,7 +87,7 @@ turns_told made schedule code old new before after start out out' first last res
     of_code made.front.items code made.program (λ (k : Code). run_text made.lines k (turns_of schedule k.procs)) (limit - old.taken) before after start out' result same
     (streams_told (λ vectors t. t ≡ made.front.items ++ texts (run_text made.lines code (turns_of schedule code.procs)) vectors) code.size code.modulus made.front.items
     (run_text made.lines code (turns_of schedule code.procs)) (λ x. runs code x (turns_of schedule code.procs)) old new before after start out out' first last result
-    (λ ts. refl) begun within ends s)
+    (λ ts. refl) (code_has_size code made.program same) begun within ends s)
 
 events_text : (asked : Bool) (word : Events) (procs : ℕ) (code : Code) →
     buffered_text asked code (listed.events_of word procs) ≡ order_text asked (order_of word) procs code
@@ -102,7 +109,8 @@ events_told made word code old new before after start out out' first last result
     of_code made.front.items code made.program (λ (k : Code). order_text made.lines (order_of word) k.procs k) (limit - old.taken) before after start out' result same
     (streams_told (λ vectors t. t ≡ made.front.items ++ texts (order_text made.lines (order_of word) code.procs code) vectors) code.size code.modulus made.front.items
     text (λ x. buffered_runs code x (listed.events_of word code.procs)) old new before after start out out' first last result
-    (λ ts. ap (λ (f : List ℕ → List ℕ). made.front.items ++ texts f (vectors_of code.size code.modulus ts)) (events_text made.lines word code.procs code)) begun within ends s)
+    (λ ts. ap (λ (f : List ℕ → List ℕ). made.front.items ++ texts f (vectors_of code.size code.modulus ts)) (events_text made.lines word code.procs code))
+    (code_has_size code made.program same) begun within ends s)
 
 -- Other texts of the same vectors
 
@@ -113,14 +121,36 @@ vectors_made size modulus over (Some token) seen = (good_front (tokens seen), re
 vectors_made size modulus true None seen = (tokens (closed_part seen), refl)
 vectors_made size modulus false None seen = (tokens seen, refl)
 
+stops_within : (size modulus : ℕ) (P Q : List (List ℕ) → List ℕ → Type 0) → 0 < size
+    → ((ts : List (List ℕ)) (t : List ℕ) → P (vectors_of size modulus ts) t → Q (vectors_of size modulus ts) t)
+    → (read taken : List ℕ) → StopsAtLast size P read (vectors_of size modulus (tokens read)) taken
+    → StopsAtLast size Q read (vectors_of size modulus (tokens read)) taken
+stops_within size modulus P Q some each read taken (inl none) = inl none
+stops_within size modulus P Q some each read taken (inr (whole, h)) =
+    let us = vectors_ahead size modulus (tokens read) h.ahead h.last some h.whole in
+    inr (
+      whole,
+      record {
+        ahead = h.ahead;
+        last = h.last;
+        whole = h.whole;
+        text = h.text;
+        right = subst (λ (v : List (List ℕ)). P v h.text → Q v h.text) us.1 (each us.0 h.text) h.right;
+        rest = h.rest;
+        begins = h.begins;
+      },
+    )
+
 -- a text for whole vectors is another one for them
-pub mapping_within : (size modulus : ℕ) (P Q : List (List ℕ) → List ℕ → Type 0) (room : ℕ)
+pub mapping_within : (size modulus : ℕ) (P Q : List (List ℕ) → List ℕ → Type 0) (room : ℕ) → 0 < size
     → ((ts : List (List ℕ)) (t : List ℕ) → P (vectors_of size modulus ts) t → Q (vectors_of size modulus ts) t)
     → Within (mapping all size modulus P room) (mapping all size modulus Q room)
-mapping_within size modulus P Q room each = record {
+mapping_within size modulus P Q room some each = record {
+  most = all_few room;
   answer = λ bytes s t p.
       let made = vectors_made size modulus (nat_lt room (length bytes)) (bad_after 0 (tokens (take room bytes))) (take room bytes) in
       (p.0, subst (λ (v : List (List ℕ)). P v t → Q v t) made.1 (each made.0 t) p.1);
   broken = λ read ended t p. (p.0, p.1, each (tokens (closed_part read)) t p.2);
-  cut = λ read left t p. (p.0, p.1, each (tokens read) t p.2);
+  cut = λ read left t taken p.
+      (p.0, p.1, each (tokens read) t p.2, stops_within size modulus P Q some each read taken p.3);
 }

@@ -115,7 +115,7 @@ module _ (given : List (List ℕ)) (wanted : Asked) (out : Option (List ℕ)) (i
   unread rest.TooLong held read more ended before taken gives empty =
       let long : listing_limit < length (first_part ((read ++ held) ++ more)) =
       subst (λ (l : List ℕ). listing_limit < length (first_part l)) (sym (append_assoc read held more))
-      (gives (held ++ more)) in
+      (gives.1 (held ++ more)) in
       settled given _ more out out (TooLong listing_limit) (λ e. cc) (λ e. cc)
       (λ d. ([], inr (wanted, is, inl (long, refl, refl)), Appends-nil out))
   unread rest.NoMemory held read more ended before taken gives empty =

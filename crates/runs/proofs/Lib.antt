@@ -3,6 +3,7 @@ pub mod Goes
 pub mod TwoMachines
 pub mod FaultLemmas
 pub mod Acts
+pub mod CutLemmas
 pub mod Settled
 pub mod EventsAct
 pub mod StreamLemmas

@@ -18,13 +18,14 @@ use Rattle.data_stream.proofs.TokenLemmas.{both_left, both_right}
 use Rattle.data_stream.proofs.TokensLemmas.{not_ended}
 use Rattle.data_stream.proofs.VectorLemmas.{closed_after}
 use Rattle.runs.specs.Progress.{StreamProgress, HasCome, ReadsData, StreamsBehind}
-use Rattle.runs.specs.Stream.{Reads, vectors_of, good_front, bad_after, vectors_seen, data_vectors, Streams, Writes}
+use Rattle.runs.specs.Stream.{Reads, vectors_of, good_front, bad_after, vectors_seen, data_vectors, Streams}
 use Rattle.runs.specs.StreamFault.{stream_fault}
 use Rattle.runs.specs.declared.stream.StreamFault.{StreamFault}
 use Rattle.runs.specs.declared.stream.StreamFault.TheVariants.{TooLong, WriteFault}
 use Rattle.runs.proofs.StreamLemmas.{Once, no_stream, stream_push, stream_end, stream_fault_at, stream_unwritten}
 use Rattle.runs.proofs.StreamLemmas.{failed_next, failed_stream}
-use Rattle.runs.proofs.StreamLemmas.{answered_with, fault_within, seen_front, state_behind-of, texts_same}
+use Rattle.runs.proofs.StreamLemmas.{answered_with, fault_within, seen_front, state_behind-of}
+use Rattle.runs.proofs.CutLemmas.{writes_same}
 
 -- nothing was read yet
 pub come_none : (modulus size : ℕ) (cut : Cut) (feed : Fed) (a : Option (List ℕ)) → cut ≡ record { size = size; done = 0; ended = false } → HasCome modulus cut feed feed a a []
@@ -139,7 +140,7 @@ pub streams_as : {S T : Type 0} (f : S → T) (seen : List (List ℕ)) (text tex
 streams_as f seen text text' leaves leaves' size modulus old new before after out out' first last result same_text same s = record {
   later = s.later;
   reads = s.reads;
-  wrote = subst (Writes out out' result) (texts_same text text' same_text s.later) s.wrote;
+  wrote = writes_same text text' same_text s.later out out' result s.wrote;
   stands = λ other. ap f (s.stands other) ∙ state_behind-of f leaves leaves' same first s.later;
 }
 

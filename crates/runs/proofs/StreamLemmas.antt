@@ -21,7 +21,6 @@ use Rattle.schedules.specs.Schedule.{Plan}
 use Rattle.schedules.specs.Turns.{turns_of}
 use Rattle.io_edge.specs.Feed.{Fed, limit}
 use Rattle.io_edge.specs.Taken.{AppendsPrefix}
-use Rattle.io_edge.proofs.TakenLemmas.{prefix_after}
 use Rattle.data_stream.specs.Data.{tokens, closed_part, is_good}
 use Rattle.data_stream.specs.Reading.{AreTokens, IsPart, GivesVector, residues}
 use Rattle.data_stream.specs.declared.vectors.Next.{Next}
@@ -33,7 +32,7 @@ use Rattle.data_stream.proofs.TokenLemmas.{both_left, both_right}
 use Rattle.data_stream.proofs.VectorLemmas.{closed_after, over_behind, count_grown, all_good}
 pub use Rattle.runs.specs.Progress.{StreamProgress}
 use Rattle.runs.specs.Stream.{group_vectors, vectors_of, texts, state_behind, good_front, bad_after, answer_of}
-use Rattle.runs.specs.Stream.{vectors_seen, data_answer, data_vectors, Answers, AnswersWith, Reads, Writes}
+use Rattle.runs.specs.Stream.{vectors_seen, data_answer, data_vectors, Answers, AnswersWith, FailsAtLast, Reads, Writes}
 use Rattle.runs.specs.declared.stream.StreamFault.{StreamFault}
 use Rattle.runs.specs.StreamFault.{stream_fault}
 use Rattle.runs.specs.declared.stream.StreamFault.TheVariants.{BadNumber, Truncated, TooLong, ReadFault, WriteFault}
@@ -148,6 +147,7 @@ stream_unwritten a c old new ended size modulus done vectors end some p at_end =
       p.taken,
       ap (list_all is_good) there ∙ p.good,
       closed_or_ended ended (closed_part p.bytes ≡ p.bytes) end p.closed at_end,
+      ap (λ n. n % size) (ap length there ∙ p.count ∙ sym (add-zero done)) ∙ p.whole 0 ∙ mod-eq_of_lt some,
       ap (vectors_of size modulus) (there ∙ sym (append-nil p.ts)) ∙ vectors_still p [] some,
     )
 
@@ -365,7 +365,7 @@ reads_more size modulus old new read now later vectors (Err (Truncated have need
 reads_more size modulus old new read now later vectors (Err (BadNumber token)) goes s = s
 reads_more size modulus old new read now later vectors (Err TooLong) goes s = s
 reads_more size modulus old new read now later vectors (Err ReadFault) goes s = s
-reads_more size modulus old new read now later vectors (Err WriteFault) goes s = (s.0, s.1, still s.2, s.3)
+reads_more size modulus old new read now later vectors (Err WriteFault) goes s = (s.0, s.1, still s.2, s.3, s.4)
   where
     still : (closed_part read ≡ read) ⊎ now → (closed_part read ≡ read) ⊎ later
     still (inl e) = inl e
@@ -391,17 +391,17 @@ texts_more text a b c seen x v e p w =
     subst (Appends a c) (sym (texts-push text seen x)) (Appends-trans a b c (texts text seen) (text x) p (subst (Appends b c) e w))
 
 pub texts_cut : (text : List ℕ → List ℕ) (a b c : Option (List ℕ)) (seen : List (List ℕ)) (x v : List ℕ) → v ≡ text x →
-    Appends a b (texts text seen) → AppendsPrefix b c v → AppendsPrefix a c (texts text (seen ++ x ∷ []))
+    Appends a b (texts text seen) → AppendsPrefix b c v → FailsAtLast text (seen ++ x ∷ []) a c
 texts_cut text a b c seen x v e p w =
-    subst (AppendsPrefix a c) (sym (texts-push text seen x)) (prefix_after a b c (texts text seen) (text x) p (subst (AppendsPrefix b c) e w))
+    record { ahead = seen; last = x; whole = refl; mid = b; took = p; cut = subst (AppendsPrefix b c) e w }
 
 -- after a fault of the data the output has taken all texts
-pub writes_fault : (fault : DataFault) (a b : Option (List ℕ)) (text : List ℕ) → Appends a b text →
-    Writes a b (Err (stream_fault fault)) text
-writes_fault (data_fault.BadNumber token) a b text w = w
-writes_fault (data_fault.Truncated have need) a b text w = w
-writes_fault data_fault.TooLong a b text w = w
-writes_fault data_fault.ReadFault a b text w = w
+pub writes_fault : (fault : DataFault) (a b : Option (List ℕ)) (text : List ℕ → List ℕ) (vectors : List (List ℕ)) →
+    Appends a b (texts text vectors) → Writes a b (Err (stream_fault fault)) text vectors
+writes_fault (data_fault.BadNumber token) a b text vectors w = w
+writes_fault (data_fault.Truncated have need) a b text vectors w = w
+writes_fault data_fault.TooLong a b text vectors w = w
+writes_fault data_fault.ReadFault a b text vectors w = w
 
 abbrev pub failed_next : DataFault → Result Next DataFault
 failed_next fault = Err fault

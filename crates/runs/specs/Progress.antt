@@ -8,7 +8,7 @@ use Rattle.io_edge.specs.Feed.{Fed, limit}
 use Rattle.data_stream.specs.Data.{closed_part, is_good}
 use Rattle.data_stream.specs.Reading.{AreTokens}
 use Rattle.data_stream.specs.Vectors.{Cut}
-use Rattle.runs.specs.Stream.{vectors_of, state_behind, texts, AnswersWith, Reads, Writes}
+use Rattle.runs.specs.Stream.{vectors_of, state_behind, AnswersWith, Reads, Writes}
 use Rattle.runs.specs.declared.stream.StreamFault.{StreamFault}
 use Rattle.runs.specs.declared.stream.StreamFault.TheVariants.{Truncated, WriteFault}
 
@@ -42,7 +42,7 @@ pub record StreamsBehind {S : Type 0} (seen : List (List ℕ)) (text : List ℕ 
     (out out' : Option (List ℕ)) (first last : S) (result : Result (Unit {0}) StreamFault) : Type 0 where
   pub later : List (List ℕ)
   pub reads : ReadsData size modulus old new before after (seen ++ later) result
-  pub wrote : Writes out out' result (texts text later)
+  pub wrote : Writes out out' result text later
   pub stands : result ≢ Err WriteFault → last ≡ state_behind leaves first later
 
 -- the same from here on, wherever the data began

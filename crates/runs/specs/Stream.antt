@@ -97,12 +97,25 @@ Reads size modulus old new read ended vectors (Err TooLong) = (within : List ℕ
 Reads size modulus old new read ended vectors (Err ReadFault) = (new.taken ≡ old.taken + length read)
     × (list_all is_good (tokens read) ≡ true) × (vectors_of size modulus (tokens (closed_part read)) ≡ vectors)
 Reads size modulus old new read ended vectors (Err WriteFault) = (new.taken ≡ old.taken + length read)
-    × (list_all is_good (tokens read) ≡ true) × ((closed_part read ≡ read) ⊎ ended) × (vectors_of size modulus (tokens read) ≡ vectors)
+    × (list_all is_good (tokens read) ≡ true) × ((closed_part read ≡ read) ⊎ ended)
+    × (length (tokens read) % size ≡ 0) × (vectors_of size modulus (tokens read) ≡ vectors)
 
--- the output took the text, or a prefix of it where it failed
-abbrev pub Writes : Option (List ℕ) → Option (List ℕ) → Result (Unit {0}) StreamFault → List ℕ → Type 0
-Writes before after (Err WriteFault) text = AppendsPrefix before after text
-Writes before after result text = Appends before after text
+-- the output failed at the text of the last vector: it took those of the vectors before it, and a prefix of this one
+pub record FailsAtLast (text : List ℕ → List ℕ) (vectors : List (List ℕ))
+    (before after : Option (List ℕ)) : Type 0 where
+  pub ahead : List (List ℕ)
+  pub last : List ℕ
+  pub whole : vectors ≡ ahead ++ last ∷ []
+  -- what the output held before the last text
+  pub mid : Option (List ℕ)
+  pub took : Appends before mid (texts text ahead)
+  pub cut : AppendsPrefix mid after (text last)
+
+-- the output took the texts of the vectors, up to the fault where it failed
+abbrev pub Writes : Option (List ℕ) → Option (List ℕ) → Result (Unit {0}) StreamFault → (List ℕ → List ℕ)
+    → List (List ℕ) → Type 0
+Writes before after (Err WriteFault) text vectors = FailsAtLast text vectors before after
+Writes before after result text vectors = Appends before after (texts text vectors)
 
 -- What a run has read, written and left, which writes the text of each vector and is then where the vector leaves it, unless the output fails in between
 pub record Streams {S : Type 0} (text : List ℕ → List ℕ) (leaves : List ℕ → S) (size modulus : ℕ) (old new : Fed) (before after : Option (List ℕ))
@@ -112,7 +125,7 @@ pub record Streams {S : Type 0} (text : List ℕ → List ℕ) (leaves : List �
   pub consumed : Consumes before after read
   pub answer : Reads size modulus old new read (IsOver after) vectors result
   pub answers : old.taken ≤ limit → AnswersWith size modulus (limit - old.taken) read (IsOver after) vectors result
-  pub wrote : Writes out out' result (texts text vectors)
+  pub wrote : Writes out out' result text vectors
   pub stands : result ≢ Err WriteFault → last ≡ state_behind leaves first vectors
 
 -- each turn that the schedule names is of a processor that there is

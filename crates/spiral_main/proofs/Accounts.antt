@@ -1,32 +1,54 @@
 -- From what a command does to the account of the whole call.
 use Rattle.std.proofs.Common.{◌≡◌, ◌≤◌, ◌++◌, ℕ, List, [], None, Some, Err, length, refl, sym, ap, subst, ◌∙◌, inl, inr}
-use Rattle.std.proofs.Common.{append-nil, append_assoc, arith}
+use Rattle.std.proofs.Common.{◌+◌, append-nil, append_assoc, arith, false, length-append, true}
 use Rattle.std.proofs.KnownBytes.{prepend_known-nil}
 use Rattle.std.specs.declared.option.Option.{Option}
 use Rattle.std.specs.Io.KnownBytes.{Consumes}
-use Rattle.io_edge.specs.Feed.{Fed, most_held, to_come}
+use Rattle.io_edge.specs.Feed.{Fed, limit, most_held, to_come}
 use Rattle.io_edge.specs.Told.{Tells}
 use Rattle.io_edge.proofs.ToldLemmas.{consumes_held, tells_held}
 use Rattle.spiral_words.specs.Asked.{IsAsked}
 use Rattle.spiral_words.specs.Statuses.Status.{IsDefined}
 use Rattle.spiral_words.specs.declared.Command.{Command}
+use Rattle.spiral_words.specs.declared.Command.TheVariants.{ByRequest, ByFormula, ByListing, ByList}
+use Rattle.spiral_words.specs.declared.Document.TheVariants as document
+use Rattle.spiral_words.specs.declared.FormulaCommand.TheVariants.{Compile, Apply}
+use Rattle.spiral_words.specs.declared.RequestCommand.TheVariants.{Writes, Runs, Traces, Judges}
 use Rattle.spiral_words.specs.declared.statuses.status.Status.{Status}
 use Rattle.spiral_words.specs.declared.statuses.status.Status.TheVariants.{NoMemory, ReadFault}
 use Rattle.commands.specs.Equations.Commands.{outcomes_of}
 use Rattle.commands.specs.Input.Commands.{commanded}
 use Rattle.commands.specs.Input.Outcomes.{Meets, Outcomes, SourceMeets}
 use Rattle.commands.specs.Input.Refusals.{IsEarly}
-use Rattle.commands.proofs.Inputs.OutcomeLemmas.{meets_nothing, unread_meets, unread_nothing}
+use Rattle.commands.proofs.Inputs.OutcomeLemmas.{all_few, meets_nothing, unread_meets, unread_nothing}
 use Rattle.commands.proofs.Inputs.Within.{Within, meets_within, told_within}
 use Rattle.spiral_main.specs.Outcome.{Accounts, AccountsFor, CallMeetsFor, call_outcomes}
+
+-- no command reads past the byte behind the limit
+commands_read : (command : Command) → (outcomes_of command).most ≤ limit + 1
+commands_read (ByRequest (Writes document.Plan)) = all_few limit
+commands_read (ByRequest (Writes document.Formula)) = all_few limit
+commands_read (ByRequest (Writes document.Code)) = all_few limit
+commands_read (ByRequest (Writes document.C)) = all_few limit
+commands_read (ByRequest (Writes document.Cert)) = all_few limit
+commands_read (ByRequest (Writes (document.Sample seed schedule))) = all_few limit
+commands_read (ByRequest (Runs order)) = all_few limit
+commands_read (ByRequest (Traces order)) = all_few limit
+commands_read (ByRequest Judges) = all_few limit
+commands_read (ByFormula m Compile) = all_few limit
+commands_read (ByFormula m (Apply schedule)) = all_few limit
+commands_read (ByListing schedule) = all_few limit
+commands_read (ByList schedule false) = all_few limit
+commands_read (ByList schedule true) = all_few limit
 
 -- what is right for the command that the words ask for is right for the call
 pub called : (words : List (List ℕ)) (wanted : Command) → IsAsked words wanted →
     Within (outcomes_of wanted) (call_outcomes words)
 called words wanted asked = record {
+  most = commands_read wanted;
   answer = λ bytes s t p. inr (wanted, asked, p);
   broken = λ read ended t p. (wanted, asked, p);
-  cut = λ read left t p. (wanted, asked, p);
+  cut = λ read left t taken p. (wanted, asked, p);
 }
 
 -- a call of which nothing is held
@@ -36,6 +58,7 @@ unheld outcomes before left out out' status p = record {
   used = p.read;
   held = [];
   consumed = subst (Consumes before left) (sym (append-nil p.read)) p.consumed;
+  within = p.few;
   few = omega arith;
   none = λ _. refl;
   meets = λ rest tells. p.meets rest tells;
@@ -51,6 +74,7 @@ by_source outcomes before feed left out out' status few none p = record {
   used = p.read;
   held = feed.held;
   consumed = consumes_held before left p.read feed.held p.consumed;
+  within = p.few;
   few = few;
   none = none;
   meets = λ rest tells. p.meets (feed.held ++ rest) (tells_held feed.held left rest tells);
@@ -92,6 +116,7 @@ call_within a b before left out out' status w m = record {
   used = m.used;
   held = m.held;
   consumed = m.consumed;
+  within = omega (arith, m.within, w.most);
   few = m.few;
   none = m.none;
   meets = λ rest tells.
@@ -106,6 +131,11 @@ told_left words input input' before after status told left tells = record {
   held = told.held;
   few = told.few;
   none = told.none;
+  within =
+      let all = length-append (told.used ++ told.held) left in
+      let read = length-append told.used told.held in
+      let rest = length-append told.held left in
+      omega (arith, told.within, all, read, rest);
   meets =
       subst (λ (b : List ℕ). Meets (call_outcomes words) b (told.held ++ left) before after status)
       (sym (append_assoc told.used told.held left)) (told.meets left tells);

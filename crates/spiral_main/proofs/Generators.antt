@@ -1,5 +1,5 @@
 -- The generator of the program, and that its programs are what the commands write.
-use Rattle.std.proofs.Common.{ℕ, true, false, List, inl, inr}
+use Rattle.std.proofs.Common.{ℕ, ◌≤◌, true, false, List, arith, inl, inr}
 use Rattle.commands.specs.Emission.Whole.{conv_emission, emission}
 use Rattle.commands.specs.Equations.Apply.{apply_outcomes}
 use Rattle.commands.specs.Equations.C.{c_outcomes}
@@ -17,7 +17,9 @@ use Rattle.commands.specs.Equations.Sample.{sample_outcomes}
 use Rattle.commands.specs.Equations.Trace.{trace_outcomes}
 use Rattle.commands.specs.Formulas.Letters.{program_for}
 use Rattle.commands.specs.Input.Outcomes.{Outcomes}
+use Rattle.commands.proofs.Inputs.OutcomeLemmas.{all_few}
 use Rattle.commands.proofs.Inputs.Within.{Within}
+use Rattle.io_edge.specs.Feed.{limit}
 use Rattle.spiral_words.specs.declared.Command.{Command}
 use Rattle.spiral_words.specs.declared.Command.TheVariants.{ByRequest, ByFormula, ByListing, ByList}
 use Rattle.spiral_words.specs.declared.Document.TheVariants as document
@@ -47,7 +49,12 @@ record AreSame (a b : Outcomes) : Type 1 where
 
 within_itself : (a : Outcomes) → Within a a
 within_itself a =
-    record { answer = λ bytes s t p. p; broken = λ read ended t p. p; cut = λ read left t p. p }
+    record {
+      most = omega arith;
+      answer = λ bytes s t p. p;
+      broken = λ read ended t p. p;
+      cut = λ read left t taken p. p;
+    }
 
 itself : (a : Outcomes) → AreSame a a
 itself a = record { there = within_itself a; back = within_itself a }
@@ -74,12 +81,13 @@ by_command (ByList schedule true) = itself (convolver_outcomes schedule)
 by_call : (v w : Command → Outcomes) (words : List (List ℕ)) → ((wanted : Command) → Within (v wanted) (w wanted)) →
     Within (outcomes_for v words) (outcomes_for w words)
 by_call v w words each = record {
+  most = all_few limit;
   answer = λ bytes s t p. elim p [
     | inl refused ↦ inl refused
     | inr right ↦ inr (right.0, right.1, (each right.0).answer bytes s t right.2)
   ];
   broken = λ read ended t p. (p.0, p.1, (each p.0).broken read ended t p.2);
-  cut = λ read left t p. (p.0, p.1, (each p.0).cut read left t p.2);
+  cut = λ read left t taken p. (p.0, p.1, (each p.0).cut read left t taken p.2);
 }
 
 pub one_generator : OneGenerator

@@ -1,9 +1,9 @@
 -- What the program answers for its words and the bytes of its input, and what it writes.
-use Rattle.std.specs.Prelude.{◌≡◌, ◌≤◌, ◌⊎◌, ◌++◌, ℕ, List, [], length}
+use Rattle.std.specs.Prelude.{◌≡◌, ◌+◌, ◌≤◌, ◌⊎◌, ◌++◌, ℕ, List, [], length}
 use Rattle.std.specs.declared.option.Option.{Option}
 use Rattle.std.specs.Io.KnownBytes.{Appends, Consumes}
 use Rattle.io_edge.specs.Faults.{Rose}
-use Rattle.io_edge.specs.Feed.{most_held}
+use Rattle.io_edge.specs.Feed.{limit, most_held}
 use Rattle.io_edge.specs.Taken.{AppendsPrefix}
 use Rattle.io_edge.specs.Told.{Tells}
 use Rattle.spiral_words.specs.Asked.{IsAsked}
@@ -23,9 +23,11 @@ IsOutcome words bytes status text =
 -- what is right for a call with these words, by what is right for each command
 abbrev pub outcomes_for : (Command → Outcomes) → List (List ℕ) → Outcomes
 outcomes_for right words = record {
+  most = limit + 1;
   answer = λ bytes. IsAnswerBy (commanded words) (λ (command : Command). (right command).answer bytes);
   broken = λ read ended text. (command : Command) × IsAsked words command × (right command).broken read ended text;
-  cut = λ read left text. (command : Command) × IsAsked words command × (right command).cut read left text;
+  cut = λ read left text taken.
+      (command : Command) × IsAsked words command × (right command).cut read left text taken;
 }
 
 abbrev pub call_outcomes : List (List ℕ) → Outcomes
@@ -38,6 +40,8 @@ pub record CallMeets (outcomes : Outcomes) (bytes left : List ℕ) (before after
   pub held : List ℕ
   pub few : length held ≤ most_held
   pub none : status ≡ ReadFault → held ≡ []
+  -- no more was used than may be read
+  pub within : length bytes ≤ outcomes.most + length (held ++ left)
   pub meets : Meets outcomes bytes (held ++ left) before after status
 
 -- The same by an input: it gave these bytes, those that were used and those that are held, and with all that it may have
@@ -47,6 +51,7 @@ pub record CallMeetsFor (outcomes : Outcomes) (source source' before after : Opt
   pub used : List ℕ
   pub held : List ℕ
   pub consumed : Consumes source source' (used ++ held)
+  pub within : length used ≤ outcomes.most
   pub few : length held ≤ most_held
   pub none : status ≡ ReadFault → held ≡ []
   pub meets : (left : List ℕ) → Tells source' left →

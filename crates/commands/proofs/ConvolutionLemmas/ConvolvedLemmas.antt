@@ -1,6 +1,6 @@
 -- What `convolve` comes to.
-use Rattle.std.proofs.Common.{◌≡◌, ◌≢◌, ◌<◌, ◌≤◌, ◌*◌, ◌-◌, ◌/◌, ℕ, zero, suc, Bool, true, false, List, []}
-use Rattle.std.proofs.Common.{◌∷◌, ◌++◌, Ok, Err, Result, length, drop, refl, sym, ap, subst, ◌∙◌, arith}
+use Rattle.std.proofs.Common.{◌≡◌, ◌≢◌, ◌<◌, ◌≤◌, ◌*◌, ◌+◌, ◌-◌, ◌/◌, ℕ, zero, suc, Bool, true, false, List, []}
+use Rattle.std.proofs.Common.{◌∷◌, ◌++◌, ◌%◌, Ok, Err, Result, length, drop, refl, sym, ap, subst, ◌∙◌, arith, inr}
 use Rattle.std.proofs.KnownBytes.{Appends-nil}
 use Rattle.std.proofs.Math.Nat.{div-mul-le_self}
 use Rattle.std.proofs.lemmas.List.{length-drop}
@@ -13,6 +13,7 @@ use Rattle.generate.specs.ConvPlanned.{IsConvPlanned}
 use Rattle.generate_faults.specs.declared.conv_fault.ConvFault.{ConvFault}
 use Rattle.generate_faults.specs.declared.conv_fault.ConvFault.TheVariants as conv
 use Rattle.data_stream.specs.Data.{tokens}
+use Rattle.data_stream.specs.Line.{line_of}
 use Rattle.data_stream.specs.Vectors.{Cut}
 use Rattle.icode.specs.Machine.{Code, results}
 use Rattle.icode.specs.Program.{plain_program, code_of}
@@ -39,16 +40,18 @@ use Rattle.commands.specs.Equations.Convolve.{IsConvolveText, IsConvolverText, c
 use Rattle.commands.specs.Equations.Convolve.{outcomes_by_list}
 use Rattle.commands.specs.Equations.Front.{line, by_front}
 use Rattle.commands.specs.Equations.Orders.{Planned, turned}
-use Rattle.commands.specs.Equations.Works.{Wants, a_first, the_first, by_first, mapping, status_by, ReadsOn}
+use Rattle.commands.specs.Equations.Works.{HasAllButLast, Wants, a_first, the_first, by_first, mapping, status_by}
+use Rattle.commands.specs.Equations.Works.{ReadsOn}
 use Rattle.commands.specs.Input.Outcomes.{Outcomes, Meets, SourceMeets}
 use Rattle.commands.specs.Input.Refusals.{IsRefusal}
 use Rattle.commands.specs.Input.Stage.{◌>>=◌}
 use Rattle.commands.proofs.DocumentLemmas.{with_tree}
 use Rattle.io_edge.proofs.ToldLemmas.{over_left}
-use Rattle.commands.proofs.Inputs.DataLemmas.{fine_by, reads_vectors, lines_equal, run_answers, run_meets}
+use Rattle.commands.proofs.Inputs.DataLemmas.{fine_by, reads_few, reads_vectors, lines_equal, run_answers, run_meets}
 use Rattle.commands.proofs.Inputs.DataLemmas.{turns_below}
-use Rattle.commands.proofs.Inputs.OutcomeLemmas.{answered_meets, cut_meets}
+use Rattle.commands.proofs.Inputs.OutcomeLemmas.{all_few, answered_meets, cut_meets}
 use Rattle.commands.proofs.Inputs.StatusLemmas.{failed}
+use Rattle.runs.proofs.CutLemmas.{vectors_ahead}
 use Rattle.runs.proofs.StreamLemmas.{reads_more}
 use Rattle.commands.proofs.Inputs.StageLemmas.{stage_told}
 use Rattle.commands.proofs.Inputs.Within.{Within, front_join}
@@ -68,10 +71,21 @@ conv_refusal fault = record { success = λ e. cc; read = λ e. cc; write = λ e.
 -- Data without a list
 
 -- a failed run that wrote nothing has written the texts of no vector
-nothing_written : (out : Option (List ℕ)) (fault : StreamFault) → failed fault ≢ failed stream.WriteFault →
-    Writes out out (failed fault) []
-nothing_written out stream.WriteFault other = absurd (other refl)
-nothing_written out fault other = Appends-nil out
+nothing_written : (out : Option (List ℕ)) (text : List ℕ → List ℕ) (fault : StreamFault)
+    → failed fault ≢ failed stream.WriteFault → Writes out out (failed fault) text []
+nothing_written out text stream.WriteFault other = absurd (other refl)
+nothing_written out text fault other = Appends-nil out
+
+-- none is the last of no vectors
+none_last : (ahead : List (List ℕ)) (last : List ℕ) → [] ≡ ahead ++ last ∷ [] → ⊥
+none_last [] last e = absurd (cc)
+none_last (x ∷ ahead) last e = absurd (cc)
+
+-- too much is no lack
+lacking_long : (size : ℕ) (result : Result (Unit {0}) StreamFault) → result ≢ Err stream.TooLong
+    → lacking size result ≢ stream.TooLong
+lacking_long size (Ok u) other = λ e. cc
+lacking_long size (Err fault) other = λ e. other (ap failed e)
 
 -- where no vector is there, a work that wants one lacks it
 pub record WantsList (wants : Wants) (size : ℕ) : Type 0 where
@@ -88,12 +102,13 @@ module _ (wants : Wants) (size modulus : ℕ) (list : WantsList wants size)
       → Meets (mapping wants size modulus (by_first IsText) (limit - old.taken)) (read ++ left) left out out
       (status_of_fault (lacking size result))
   lacks old new read left out (Ok u) ends other s seen =
-      run_answers wants (by_first IsText) size modulus old new read left [] [] [] refl out out out (Appends-nil out)
-      (Ok u) (status_of_fault (lacking size (Ok u))) (list.lacks (Ok u)) seen (Appends-nil out) (λ e. cc) (λ e. cc)
+      run_answers wants (by_first IsText) size modulus old new read left [] [] [] (λ x. []) refl out out out
+      (Appends-nil out) (Ok u) (status_of_fault (lacking size (Ok u))) (list.lacks (Ok u)) seen (Appends-nil out)
+      (λ e. cc) (λ e. cc)
   lacks old new read left out (Err fault) ends other s seen =
-      run_meets wants (by_first IsText) size modulus old new read left [] [] [] refl out out out (Appends-nil out)
-      (Err fault) (list.lacks (Err fault)) list.on s seen (nothing_written out fault other)
-      (λ short. ends (λ e. short (ap failed e)))
+      run_meets wants (by_first IsText) size modulus old new read left [] [] [] (λ x. []) refl out out out
+      (Appends-nil out) (Err fault) (list.lacks (Err fault)) list.on s seen (nothing_written out (λ x. []) fault other)
+      (λ short. ends (λ e. short (ap failed e))) (λ ahead last e. absurd (none_last ahead last e))
 
   pub list_lacking : (old new : Fed) (before after out : Option (List ℕ)) (fault : StreamFault)
       → old.taken ≤ limit → (fault ≢ stream.TooLong → new.taken ≤ limit) →
@@ -107,6 +122,8 @@ module _ (wants : Wants) (size modulus : ℕ) (list : WantsList wants size)
       record {
         read = r.read;
         consumed = r.consumed;
+        few = reads_few size modulus old new r.read (IsOver after) [] result r.answer start
+            (λ other. short (lacking_long size result other));
         meets = λ rest tells.
             let goes : IsOver after → rest ≡ [] = over_left after rest tells in
             rw none.3 (lacks old new r.read rest out result short none.1
@@ -123,6 +140,10 @@ list_told false plan old new before after out fault start ends none =
 list_told true plan old new before after out fault start ends none =
     list_lacking the_first plan.request.size plan.request.modulus (record { lacks = λ answer. refl; on = refl }) _ old new before after out fault start ends none
 
+list_few : (code : Bool) (plan : Planned) (room : ℕ) → (list_work code plan room).most ≤ room + 1
+list_few false plan room = all_few room
+list_few true plan room = all_few room
+
 pub convolves_lacking : (code : Bool) (plan : Planned) (request : Request) (old new : Fed)
     (before after out : Option (List ℕ)) (fault : StreamFault)
     → conv_chosen request (Ok plan) → old.taken ≤ limit → (fault ≢ stream.TooLong → new.taken ≤ limit)
@@ -130,7 +151,7 @@ pub convolves_lacking : (code : Bool) (plan : Planned) (request : Request) (old 
     → SourceMeets (work_by_list code request (limit - old.taken)) before after out out (status_of_fault fault)
 convolves_lacking code plan request old new before after out fault chosen start ends none =
     stage_told (conv_chosen request) (list_work code) (limit - old.taken) plan before after out out (status_of_fault fault) chosen
-    (list_told code plan old new before after out fault start ends none)
+    (list_few code plan (limit - old.taken)) (list_told code plan old new before after out fault start ends none)
 
 -- The listing
 
@@ -145,9 +166,10 @@ convolves_listing request cut old new before after out out' h listing program si
     let plan = with_tree request made.tree in
     let room = limit - old.taken in
     stage_told (conv_chosen request) convolver_work room plan before after out out' Success (refl, made.planned)
-    (record {
+    (all_few room) (record {
       read = come.progress.bytes;
       consumed = come.progress.consumed;
+      few = let few : length come.progress.bytes ≤ room + 1 = omega (arith, come.progress.taken, start, within) in few;
       meets = λ rest tells.
           let bytes : List ℕ = come.progress.bytes ++ rest in
           let first = vectors_begin request.modulus cut old new before after rest (h ∷ []) come start within
@@ -178,21 +200,27 @@ convolves_cut request cut old new before after out out' h listing program size s
     let r = come_unwritten request.modulus cut old new before after (h ∷ []) (omega (arith, some, size)) within end
     come in
     let seen : vectors_of request.size request.modulus (tokens r.read) ≡ h ∷ [] =
-    ap (λ n. vectors_of n request.modulus (tokens r.read)) (sym size) ∙ r.answer.3 in
+    ap (λ n. vectors_of n request.modulus (tokens r.read)) (sym size) ∙ r.answer.4 in
     stage_told (conv_chosen request) convolver_work room plan before after out out' WriteFault (refl, made.planned)
-    (record {
+    (all_few room) (record {
       read = r.read;
       consumed = r.consumed;
+      few = let few : length r.read ≤ room + 1 = omega (arith, r.answer.0, within) in few;
       meets = λ rest tells.
           let goes : IsOver after → rest ≡ [] = over_left after rest tells in
           let s = reads_more cut.size request.modulus old new r.read (IsOver after) (rest ≡ []) (h ∷ [])
           (Err stream.WriteFault) goes r.answer in
-          cut_meets (convolver_work plan room) r.read rest listing out out' (
+          let all : HasAllButLast (IsConvolverText plan) (h ∷ []) wrote.front =
+          record { ahead = []; last = h; whole = refl; text = []; right = refl; rest = wrote.front; begins = refl } in
+          cut_meets (convolver_work plan room) r.read rest listing out out' wrote (
             fine_by old.taken new.taken r.read s.0 within s.1,
             s.2,
             subst (λ vectors. IsConvolverText plan vectors listing) (sym seen) (same ∙ ap listing_of made.letters),
-          )
-          wrote;
+            inr (
+              ap (λ n. length (tokens r.read) % n) (sym size) ∙ s.3,
+              subst (λ vectors. HasAllButLast (IsConvolverText plan) vectors wrote.front) (sym seen) all,
+            ),
+          );
     })
 
 -- The lines of a run
@@ -244,14 +272,19 @@ run_told schedule request code old new before after out out' h program leaves fi
     record {
       read = r.read;
       consumed = r.consumed;
+      few = reads_few request.size request.modulus old new r.read (IsOver after) (h ∷ s.later) result r.answer start
+          ends;
       meets = λ rest tells.
           let goes : IsOver after → rest ≡ [] = over_left after rest tells in
           run_meets a_first (IsConvolveText (with_tree request made.tree)) request.size request.modulus old new r.read rest
-          (h ∷ s.later) []
-          (lines (λ x. results code x turns) s.later) told out out out' (Appends-nil out) result refl tt
+          (h ∷ []) s.later [] (λ x. line_of (results code x turns)) told out out out' (Appends-nil out) result refl tt
           (reads_more request.size request.modulus old new r.read (IsOver after) (rest ≡ []) (h ∷ s.later) result
           goes r.answer)
-          (r.answers start rest goes) s.wrote ends;
+          (r.answers start rest goes) s.wrote ends
+          (λ ahead last shown.
+          convolved_lines request h program code turns ahead made same some there
+          (vectors_ahead request.size request.modulus whole.0 (h ∷ ahead) last
+          (omega (arith, program.header.of_size.0, made.convolver.header.size)) (whole.1 ∙ shown)));
     }
 
 -- the list has come, by what the machine's code says of the modulus
@@ -278,6 +311,7 @@ convolves_run schedule request code cut old now new before mid after out out' h 
     let text : List ℕ → List ℕ = run_text false code (turns_of schedule code.procs) in
     let modulus : code.modulus ≡ request.modulus = ap (λ (k : Code). k.modulus) same ∙ made.convolver.header.modulus in
     stage_told (conv_chosen request) convolve_work (limit - old.taken) (with_tree request made.tree) before after out out' (status_of_stream result) (refl, made.planned)
+    (all_few (limit - old.taken))
     (run_told schedule request code old new before after out out' h program leaves first last result made same own some none start ends
     (subst (λ n. StreamsBehind (h ∷ []) text leaves n request.modulus old new before after out out' first last result) size
     (subst (λ m. StreamsBehind (h ∷ []) text leaves cut.size m old new before after out out' first last result) modulus

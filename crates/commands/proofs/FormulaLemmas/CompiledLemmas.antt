@@ -1,5 +1,5 @@
 -- What `compile` and `apply` come to.
-use Rattle.std.proofs.Common.{◌≡◌, ◌<◌, ◌≤◌, ◌-◌, ◌/◌, ℕ, false, List, [], ◌++◌, None, Some, Ok, Err, Vec, length}
+use Rattle.std.proofs.Common.{◌≡◌, ◌<◌, ◌≤◌, ◌+◌, ◌-◌, ◌/◌, ℕ, false, List, [], ◌++◌, None, Some, Ok, Err, Vec, length}
 use Rattle.std.proofs.Common.{refl, sym, ap, subst, ◌∙◌, arith, inr}
 use Rattle.std.proofs.Common.{Global}
 use Rattle.std.proofs.KnownBytes.{Consumes-kept}
@@ -48,7 +48,8 @@ use Rattle.commands.proofs.Inputs.DataLemmas.{lines_equal, turns_below}
 use Rattle.commands.proofs.Inputs.FrontLemmas.{asks_read_fault, asks_too_long, front_refused, text_told}
 use Rattle.commands.proofs.Inputs.LineLemmas.{line_is_front}
 use Rattle.commands.proofs.Inputs.Within.{told_within}
-use Rattle.commands.proofs.Inputs.OutcomeLemmas.{answered_meets, cut_meets, told_nothing, unread_meets}
+use Rattle.commands.proofs.Inputs.OutcomeLemmas.{all_few, answered_meets, cut_meets, none_few, told_nothing}
+use Rattle.commands.proofs.Inputs.OutcomeLemmas.{unread_meets}
 use Rattle.commands.proofs.StreamLemmas.{mapping_within}
 
 -- The line
@@ -84,38 +85,43 @@ module _ (orders : List ℕ → Stage Formula) (work : Formula → Work) where
       → Consumes before after read → GivesText read (IsOver after) taken (Err fault)
       → SourceMeets by_line before after out out (status_of_text fault)
   line_unread before after out taken read rest_fault.TooLong consumed given =
-      front_refused (line 65536) orders work before after out taken (TooLong 65536) (asks_too_long (line 65536) orders before after taken read consumed given) (λ e. cc)
+      front_refused (line 65536) orders work before after out taken (TooLong 65536)
+      (asks_too_long (line 65536) orders before after taken read consumed (omega (arith, given.0)) given.1) (λ e. cc)
   line_unread before after out taken read rest_fault.ReadFault consumed given =
-      front_refused (line 65536) orders work before after out taken ReadFault (asks_read_fault (line 65536) orders before after taken read consumed given) (λ e. cc)
-  line_unread before after out taken read rest_fault.NoMemory consumed given = told_nothing by_line before after out read consumed
+      front_refused (line 65536) orders work before after out taken ReadFault
+      (asks_read_fault (line 65536) orders before after taken read consumed
+      (let short : length read ≤ 65536 = given.short in omega (arith, short)) given) (λ e. cc)
+  line_unread before after out taken read rest_fault.NoMemory consumed given =
+      let few : length read ≤ limit + 1 = omega (arith, given) in
+      told_nothing by_line before after out read consumed few
 
 -- The listing
 
 -- it is written
 pub compile_told : (m : ℕ) (before after out out' : Option (List ℕ)) (taken : ℕ) (read text listing : List ℕ)
-    → Consumes before after read → taken ≡ length read → IsWhole (line 65536) read (IsOver after) text
-    → length text ≤ 65536
+    → Consumes before after read → length read ≤ limit → taken ≡ length read
+    → IsWhole (line 65536) read (IsOver after) text → length text ≤ 65536
     → IsCompiledText m text listing → Appends out out' listing
     → SourceMeets (compile_outcomes m) before after out out' Success
-compile_told m before after out out' taken read text listing consumed count whole short made wrote =
+compile_told m before after out out' taken read text listing consumed few count whole short made wrote =
     let work = compile_work m made.0 (limit - taken) in
     text_told (line 65536) written (compile_work m) (line_is_front 65536) before after after out out' taken read text
-    made.0 Success consumed count whole short made.1
+    made.0 Success consumed few count whole short made.1 (none_few (limit - taken))
     (unread_meets work after out out' Success (λ bytes.
     answered_meets work bytes bytes out out' Success (λ d. (listing, (refl, made.2), wrote)) (λ e. cc) (λ e. cc)))
 
 -- a front of it is written
 pub compile_cut : (m : ℕ) (before after out out' : Option (List ℕ)) (taken : ℕ) (read text listing : List ℕ)
-    → Consumes before after read → taken ≡ length read → IsWhole (line 65536) read (IsOver after) text
-    → length text ≤ 65536
+    → Consumes before after read → length read ≤ limit → taken ≡ length read
+    → IsWhole (line 65536) read (IsOver after) text → length text ≤ 65536
     → IsCompiledText m text listing → AppendsPrefix out out' listing
     → SourceMeets (compile_outcomes m) before after out out' WriteFault
-compile_cut m before after out out' taken read text listing consumed count whole short made wrote =
+compile_cut m before after out out' taken read text listing consumed few count whole short made wrote =
     let work = compile_work m made.0 (limit - taken) in
     text_told (line 65536) written (compile_work m) (line_is_front 65536) before after after out out' taken read text
-    made.0 WriteFault consumed count whole short made.1
+    made.0 WriteFault consumed few count whole short made.1 (none_few (limit - taken))
     (unread_meets work after out out' WriteFault (λ bytes.
-    cut_meets work [] bytes listing out out' (refl, made.2) wrote))
+    cut_meets work [] bytes listing out out' wrote (refl, made.2)))
 
 -- The formula's matrix times the vectors
 
@@ -133,11 +139,12 @@ formula_lines m formula own turns is there ts =
 
 pub apply_told : (m : ℕ) (schedule : Plan) (program : Program) (front : Vec ℕ Global)
     (before mid left out out' : Option (List ℕ)) (taken : ℕ) (read text : List ℕ) (status : Status)
-    → Consumes before mid read → taken ≡ length read → IsWhole (line 65536) read (IsOver mid) text → length text ≤ 65536
+    → Consumes before mid read → length read ≤ limit → taken ≡ length read
+    → IsWhole (line 65536) read (IsOver mid) text → length text ≤ 65536
     → IsFormedProgram m (named schedule) text program → HasNoStranger schedule program.procs → front.items ≡ []
     → SourceMeets (stream_work (record { program = program; front = front; lines = false }) (order.Turns schedule) (limit - taken)) mid left out out' status
     → SourceMeets (apply_outcomes m schedule) before left out out' status
-apply_told m schedule program front before mid left out out' taken read text status consumed count whole short made none alone p =
+apply_told m schedule program front before mid left out out' taken read text status consumed few count whole short made none alone p =
     let own : PlainProgram = plain_program program in
     let formula : Formula = made.0 in
     let is : IsCodeOf m formula own = made.2 in
@@ -151,8 +158,9 @@ apply_told m schedule program front before mid left out out' taken read text sta
     subst (λ n. SourceMeets (mapping all (size_of formula) n Writes room) mid left out out' status) is.header.modulus
     (subst (λ n. SourceMeets (mapping all n own.modulus Writes room) mid left out out' status) is.header.size p) in
     text_told (line 65536) (formed (named schedule)) (apply_work m) (line_is_front 65536) before mid left out out' taken
-    read text formula status consumed count whole short made.1
+    read text formula status consumed few count whole short made.1 (all_few room)
     (told_within (mapping all (size_of formula) m Writes room) (apply_work m formula room) mid left out out' status
-    (mapping_within (size_of formula) m Writes Wanted room (λ ts t written.
+    (mapping_within (size_of formula) m Writes Wanted room (omega (arith, program.header.of_size.0, is.header.size))
+    (λ ts t written.
     written ∙ ap (λ l. l ++ texts (run_text false (plain_code own) turns) (vectors_of (size_of formula) m ts)) alone
     ∙ formula_lines m formula own turns is there ts)) sized)

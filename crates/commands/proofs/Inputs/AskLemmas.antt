@@ -3,6 +3,7 @@ use Rattle.std.proofs.Common.{◌≡◌, ◌≢◌, ◌≤◌, ℕ, List, take, 
 use Rattle.std.proofs.Common.{arith, inl, inr}
 use Rattle.std.specs.declared.option.Option.{Option}
 use Rattle.std.specs.Io.KnownBytes.{Consumes}
+use Rattle.io_edge.specs.Feed.{limit}
 use Rattle.io_edge.specs.Told.{IsOver}
 use Rattle.matrix_meaning.specs.declared.Request.{Request}
 use Rattle.request_text.specs.declared.RequestFault.{RequestFault}
@@ -27,14 +28,20 @@ pub asked_line_fault : {A : Type 0} (orders : List ℕ → Stage A) (before afte
     (read buffer : List ℕ) (ended : Type 0) (fault : FeedFault)
     → Consumes before after read → GivesLine read ended taken buffer (Err fault) →
     Asks (line 256) orders before after taken (Err (status_of_line fault))
-asked_line_fault orders before after taken read buffer ended feed.ReadFault consumed given = asks_read_fault (line 256) orders before after taken read consumed given
-asked_line_fault orders before after taken read buffer ended feed.TooLong consumed given = asks_too_long (line 256) orders before after taken read consumed given
+asked_line_fault orders before after taken read buffer ended feed.ReadFault consumed given =
+    let short : length read ≤ 256 = given.short in
+    asks_read_fault (line 256) orders before after taken read consumed (omega (arith, short)) given
+asked_line_fault orders before after taken read buffer ended feed.TooLong consumed given =
+    asks_too_long (line 256) orders before after taken read consumed (omega (arith, given.0)) given.1
 
 -- the first line is what was put into the buffer
 line_given : (read buffer : List ℕ) (ended : Type 0) (taken count : ℕ) → GivesLine read ended taken buffer (Ok count)
-    → IsWhole (line 256) read ended (take count buffer) × (length (take count buffer) ≤ 256)
-line_given read buffer ended taken count given =
-    (given.3, let most = length-take count buffer in let short = given.1 in omega (arith, most, short))
+    → IsWhole (line 256) read ended (take count buffer) × (length (take count buffer) ≤ 256) × (length read ≤ limit)
+line_given read buffer ended taken count given = (
+  given.3,
+  let most = length-take count buffer in let short = given.1 in omega (arith, most, short),
+  omega (arith, given.0, given.1, given.2),
+)
 
 request_fault_other : (fault : RequestFault) → status_of_request fault ≢ ReadFault
 request_fault_other (request.Syntax at) = λ e. cc
@@ -49,7 +56,7 @@ pub asked_request_fault : (spells : List ℕ → Stage Request) (names : List �
 asked_request_fault spells names before after taken read buffer count fault consumed given answer =
     let whole = line_given read buffer (IsOver after) taken count given in
     asks_refused (line 256) (λ text. spells text >>= turned names) before after taken read (take count buffer)
-    (status_of_request fault) consumed whole.0 whole.1 (λ _. inl answer) (request_fault_other fault)
+    (status_of_request fault) consumed whole.2 whole.0 whole.1 (λ _. inl answer) (request_fault_other fault)
 
 -- a turn is of a processor that is not there
 pub asked_turn_fault : (spells : List ℕ → Stage Request) (names : List ℕ) (before after : Option (List ℕ)) (taken : ℕ)
@@ -60,7 +67,7 @@ pub asked_turn_fault : (spells : List ℕ → Stage Request) (names : List ℕ) 
 asked_turn_fault spells names before after taken read buffer count wanted q consumed given answer found =
     let whole = line_given read buffer (IsOver after) taken count given in
     asks_refused (line 256) (λ text. spells text >>= turned names) before after taken read (take count buffer)
-    (Turn q wanted.procs) consumed whole.0 whole.1
+    (Turn q wanted.procs) consumed whole.2 whole.0 whole.1
     (λ _. inr (record { value = wanted; before = answer; behind = sym (ap (λ o. admitted o wanted.procs wanted) found) })) (λ e. cc)
 
 -- the request
@@ -72,7 +79,7 @@ pub asked_request : (spells : List ℕ → Stage Request) (names : List ℕ) (be
 asked_request spells names before after taken read buffer count wanted consumed given answer none =
     let whole = line_given read buffer (IsOver after) taken count given in
     asks_value (line 256) (λ text. spells text >>= turned names) before after taken read (take count buffer) wanted
-    consumed given.0 whole.0 whole.1
+    consumed whole.2 given.0 whole.0 whole.1
     (record { value = wanted; before = answer; behind = sym (ap (λ o. admitted o wanted.procs wanted) none) })
 
 -- words ask for one command, so they tell whether the input is read to its end

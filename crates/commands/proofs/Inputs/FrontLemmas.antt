@@ -107,25 +107,32 @@ front_meets {A} front is orders work bytes read rest taken value left out out' s
             read ++ found.0,
             found.1,
             whole ∙ ap (λ l. read ++ l) found.2 ∙ sym (append_assoc read found.0 left),
+            found.3,
             (
               value,
               has found.0 (left ≡ []) none (λ end. (none_cut rest found.0 left found.2 end).1),
-              subst (λ n. (work value n).cut (front.behind (read ++ found.0)) left found.1) (room_after front read found.0 taken asked.0 (asked.1 found.0 none).1)
-                  (subst (λ b. (work value (limit - taken)).cut b left found.1) (sym (asked.1 found.0 none).1) found.3),
+              subst (λ n. (work value n).cut (front.behind (read ++ found.0)) left found.1 found.3.front)
+                  (room_after front read found.0 taken asked.0 (asked.1 found.0 none).1)
+                  (subst (λ b. (work value (limit - taken)).cut b left found.1 found.3.front)
+                  (sym (asked.1 found.0 none).1) found.4),
             ),
-            found.4,
           );
     }
 
 pub front_told : {A : Type 0} (front : Front) → IsFront front →
     (orders : List ℕ → Stage A) (work : A → Work) (before mid left : Option (List ℕ)) (taken : ℕ) (value : A)
     (out out' : Option (List ℕ)) (status : Status)
-    → Asks front orders before mid taken (Ok value)
+    → Asks front orders before mid taken (Ok value) → (work value (limit - taken)).most ≤ limit - taken + 1
     → SourceMeets (work value (limit - taken)) mid left out out' status
     → SourceMeets (by_front front orders work) before left out out' status
-front_told front is orders work before mid left taken value out out' status a p = record {
+front_told front is orders work before mid left taken value out out' status a most p = record {
   read = a.read ++ p.read;
   consumed = Consumes-trans before mid left a.read p.read a.consumed p.consumed;
+  few =
+      let all = length-append a.read p.read in
+      let count : taken ≡ length a.read = a.asks.0 in
+      let few : length (a.read ++ p.read) ≤ limit + 1 = omega (arith, all, count, a.few, p.few, most) in
+      few;
   meets = λ rest tells.
       let behind : List ℕ = p.read ++ rest in
       let asked : AsksBy front orders a.read (behind ≡ []) taken (Ok value) =
@@ -143,6 +150,7 @@ pub front_refused : {A : Type 0} (front : Front) (orders : List ℕ → Stage A)
 front_refused front orders work before left out taken status a w = record {
   read = a.read;
   consumed = a.consumed;
+  few = let few : length a.read ≤ limit + 1 = omega (arith, a.few) in few;
   meets = λ rest tells. record {
     answer = λ d. ([], inl (a.asks.0 d rest (over_left left rest tells), refl), Appends-nil out);
     read_fault = λ e. (a.read, [], refl, inl (a.asks.1 e, refl), Appends-nil out);
@@ -155,30 +163,34 @@ front_refused front orders work before left out taken status a w = record {
 -- the front can't be read
 pub asks_read_fault : {A : Type 0} (front : Front) (orders : List ℕ → Stage A) (before after : Option (List ℕ))
     (taken : ℕ) (read : List ℕ)
-    → Consumes before after read → MayGoOn front read → Asks front orders before after taken (Err ReadFault)
-asks_read_fault front orders before after taken read consumed part =
-    record { read = read; consumed = consumed; asks = (λ d. absurd (d.read refl), λ _. part) }
+    → Consumes before after read → length read ≤ limit → MayGoOn front read
+    → Asks front orders before after taken (Err ReadFault)
+asks_read_fault front orders before after taken read consumed few part =
+    record { read = read; consumed = consumed; few = few; asks = (λ d. absurd (d.read refl), λ _. part) }
 
 -- it is too long
 pub asks_too_long : {A : Type 0} (front : Front) (orders : List ℕ → Stage A) (before after : Option (List ℕ))
     (taken : ℕ) (read : List ℕ)
-    → Consumes before after read → ((more : List ℕ) → front.most < length (front.first (read ++ more))) →
-    Asks front orders before after taken (Err (TooLong front.most))
-asks_too_long front orders before after taken read consumed long = record {
+    → Consumes before after read → length read ≤ limit
+    → ((more : List ℕ) → front.most < length (front.first (read ++ more)))
+    → Asks front orders before after taken (Err (TooLong front.most))
+asks_too_long front orders before after taken read consumed few long = record {
   read = read;
   consumed = consumed;
+  few = few;
   asks = (λ _ more none. inl (sym (front_long front (read ++ more) (long more))), λ e. absurd (cc));
 }
 
 -- its text orders nothing
 pub asks_refused : {A : Type 0} (front : Front) (orders : List ℕ → Stage A) (before after : Option (List ℕ)) (taken : ℕ)
     (read text : List ℕ) (status : Status)
-    → Consumes before after read → IsWhole front read (IsOver after) text → length text ≤ front.most
-    → (IsDefined status → orders text (Err status)) → status ≢ ReadFault
+    → Consumes before after read → length read ≤ limit → IsWhole front read (IsOver after) text
+    → length text ≤ front.most → (IsDefined status → orders text (Err status)) → status ≢ ReadFault
     → Asks front orders before after taken (Err status)
-asks_refused front orders before after taken read text status consumed whole short refused other = record {
+asks_refused front orders before after taken read text status consumed few whole short refused other = record {
   read = read;
   consumed = consumed;
+  few = few;
   asks = (
     λ d more none.
         let there = front_short front (read ++ more) text (whole more none).0 short in
@@ -190,12 +202,13 @@ asks_refused front orders before after taken read text status consumed whole sho
 -- its text orders a value
 pub asks_value : {A : Type 0} (front : Front) (orders : List ℕ → Stage A) (before after : Option (List ℕ)) (taken : ℕ)
     (read text : List ℕ) (value : A)
-    → Consumes before after read → taken ≡ length read → IsWhole front read (IsOver after) text
-    → length text ≤ front.most → orders text (Ok value)
+    → Consumes before after read → length read ≤ limit → taken ≡ length read
+    → IsWhole front read (IsOver after) text → length text ≤ front.most → orders text (Ok value)
     → Asks front orders before after taken (Ok value)
-asks_value front orders before after taken read text value consumed count whole short gives = record {
+asks_value front orders before after taken read text value consumed few count whole short gives = record {
   read = read;
   consumed = consumed;
+  few = few;
   asks = (
     count,
     λ more none.
@@ -209,21 +222,22 @@ asks_value front orders before after taken read text value consumed count whole 
 module _ {A : Type 0} (front : Front) (orders : List ℕ → Stage A) (work : A → Work) where
   -- its text orders nothing
   pub text_refused : (before after out : Option (List ℕ)) (taken : ℕ) (read text : List ℕ) (status : Status)
-      → Consumes before after read → IsWhole front read (IsOver after) text → length text ≤ front.most
-      → (IsDefined status → orders text (Err status)) → IsRefusal status
+      → Consumes before after read → length read ≤ limit → IsWhole front read (IsOver after) text
+      → length text ≤ front.most → (IsDefined status → orders text (Err status)) → IsRefusal status
       → SourceMeets (by_front front orders work) before after out out status
-  text_refused before after out taken read text status consumed whole short refused refusal =
+  text_refused before after out taken read text status consumed few whole short refused refusal =
       front_refused front orders work before after out taken status
-      (asks_refused front orders before after taken read text status consumed whole short refused refusal.read)
+      (asks_refused front orders before after taken read text status consumed few whole short refused refusal.read)
       refusal.write
 
   -- its text orders a value, and after it this is right for the value's work
   pub text_told : IsFront front → (before mid left out out' : Option (List ℕ)) (taken : ℕ) (read text : List ℕ)
       (value : A) (status : Status)
-      → Consumes before mid read → taken ≡ length read → IsWhole front read (IsOver mid) text
+      → Consumes before mid read → length read ≤ limit → taken ≡ length read → IsWhole front read (IsOver mid) text
       → length text ≤ front.most → orders text (Ok value)
+      → (work value (limit - taken)).most ≤ limit - taken + 1
       → SourceMeets (work value (limit - taken)) mid left out out' status
       → SourceMeets (by_front front orders work) before left out out' status
-  text_told is before mid left out out' taken read text value status consumed count whole short gives p =
+  text_told is before mid left out out' taken read text value status consumed few count whole short gives most p =
       front_told front is orders work before mid left taken value out out' status
-      (asks_value front orders before mid taken read text value consumed count whole short gives) p
+      (asks_value front orders before mid taken read text value consumed few count whole short gives) most p

@@ -50,13 +50,14 @@ pub answer_map : {A : Type 0} (stage other : Stage A) (P Q : A → Status → Li
 answer_map stage other P Q s t g h (inl p) = inl (g (Err s) p.0, p.1)
 answer_map stage other P Q s t g h (inr p) = inr (p.0, g (Ok p.0) p.1, h p.0 p.2)
 
-pub cut_map : {A : Type 0} (ended : Type 0) (stage other : Stage A) (P Q : A → List ℕ → Type 0) (t : List ℕ)
+pub cut_map : {A : Type 0} (ended : Type 0) (stage other : Stage A) (P Q : A → Type 0)
     → ((r : Result A Status) → stage r → other r)
-    → ((a : A) → P a t → Q a t) → IsCutBy ended stage P t → IsCutBy ended other Q t
-cut_map ended stage other P Q t g h p = (p.0, record { front = p.1.front; gives = g (Ok p.0) p.1.gives }, h p.0 p.2)
+    → ((a : A) → P a → Q a) → IsCutBy ended stage P → IsCutBy ended other Q
+cut_map ended stage other P Q g h p = (p.0, record { front = p.1.front; gives = g (Ok p.0) p.1.gives }, h p.0 p.2)
 
 pub broken_map : {A : Type 0} (unended ended : Type 0) (stage other : Stage A) (P Q : A → List ℕ → Type 0)
     (t : List ℕ) → ((r : Result A Status) → stage r → other r)
     → ((a : A) → P a t → Q a t) → IsBrokenBy unended ended stage P t → IsBrokenBy unended ended other Q t
 broken_map unended ended stage other P Q t g h (inl p) = inl p
-broken_map unended ended stage other P Q t g h (inr p) = inr (cut_map ended stage other P Q t g h p)
+broken_map unended ended stage other P Q t g h (inr p) =
+    inr (cut_map ended stage other (λ a. P a t) (λ a. Q a t) g (λ a q. h a q) p)

@@ -1,5 +1,5 @@
 -- Status and output that are right for a call.
-use Rattle.std.proofs.Common.{◌≡◌, ◌≢◌, ℕ, List, [], ◌++◌, refl}
+use Rattle.std.proofs.Common.{◌≡◌, ◌≢◌, ◌≤◌, ◌+◌, ℕ, List, [], ◌++◌, arith, length, refl}
 use Rattle.std.proofs.KnownBytes.{Appends-nil, Consumes-nil}
 use Rattle.std.specs.declared.option.Option.{Option}
 use Rattle.std.specs.Io.KnownBytes.{Appends, Consumes}
@@ -8,6 +8,13 @@ use Rattle.spiral_words.specs.Statuses.Status.{IsDefined}
 use Rattle.spiral_words.specs.declared.statuses.status.Status.{Status}
 use Rattle.spiral_words.specs.declared.statuses.status.Status.TheVariants.{ReadFault, WriteFault, NoMemory}
 use Rattle.commands.specs.Input.Outcomes.{Outcomes, Meets, SourceMeets}
+
+-- as many bytes as there is room for, and one more; and none
+pub all_few : (room : ℕ) → room + 1 ≤ room + 1
+all_few room = omega arith
+
+pub none_few : (room : ℕ) → 0 ≤ room + 1
+none_few room = omega arith
 
 -- of a call that no fault of the outside ends
 pub answered_meets : (outcomes : Outcomes) (bytes left : List ℕ) (out out' : Option (List ℕ)) (status : Status)
@@ -32,12 +39,12 @@ broken_meets outcomes bytes left out out' found =
 
 -- of one whose write failed, after all that is not left was used
 pub cut_meets : (outcomes : Outcomes) (read left text : List ℕ) (out out' : Option (List ℕ))
-    → outcomes.cut read left text → AppendsPrefix out out' text
+    → (wrote : AppendsPrefix out out' text) → outcomes.cut read left text wrote.front
     → Meets outcomes (read ++ left) left out out' WriteFault
-cut_meets outcomes read left text out out' right wrote = record {
+cut_meets outcomes read left text out out' wrote right = record {
   answer = λ d. absurd (d.write refl);
   read_fault = λ e. absurd (cc);
-  write_fault = λ _. (read, text, refl, right, wrote);
+  write_fault = λ _. (read, text, refl, wrote, right);
 }
 
 -- nothing was read
@@ -45,18 +52,19 @@ pub unread_meets : (outcomes : Outcomes) (before out out' : Option (List ℕ)) (
     → ((bytes : List ℕ) → Meets outcomes bytes bytes out out' status)
     → SourceMeets outcomes before before out out' status
 unread_meets outcomes before out out' status p =
-    record { read = []; consumed = Consumes-nil before; meets = λ left tells. p left }
+    record { read = []; consumed = Consumes-nil before; few = omega arith; meets = λ left tells. p left }
 
 -- want of memory
 pub told_nothing : (outcomes : Outcomes) (before after out : Option (List ℕ)) (read : List ℕ)
-    → Consumes before after read
+    → Consumes before after read → length read ≤ outcomes.most
     → SourceMeets outcomes before after out out NoMemory
-told_nothing outcomes before after out read consumed = record {
+told_nothing outcomes before after out read consumed few = record {
   read = read;
   consumed = consumed;
+  few = few;
   meets = λ left tells. meets_nothing outcomes (read ++ left) left out NoMemory (λ d. absurd (d.memory refl)) (λ e. cc) (λ e. cc);
 }
 
 pub unread_nothing : (outcomes : Outcomes) (before out : Option (List ℕ))
     → SourceMeets outcomes before before out out NoMemory
-unread_nothing outcomes before out = told_nothing outcomes before before out [] (Consumes-nil before)
+unread_nothing outcomes before out = told_nothing outcomes before before out [] (Consumes-nil before) (omega arith)

@@ -1,5 +1,5 @@
 -- What a call comes to by a stage after a front.
-use Rattle.std.proofs.Common.{ℕ, List, ◌++◌, Ok, Err, refl, inl, inr}
+use Rattle.std.proofs.Common.{ℕ, ◌≤◌, ◌+◌, List, ◌++◌, Ok, Err, arith, length, refl, inl, inr}
 use Rattle.std.specs.declared.option.Option.{Option}
 use Rattle.spiral_words.specs.Statuses.Status.{IsDefined}
 use Rattle.spiral_words.specs.declared.statuses.status.Status.{Status}
@@ -32,15 +32,16 @@ pub stage_meets : {A : Type 0} (stage : Stage A) (work : A → Work) (room : ℕ
 stage_meets stage work room value bytes left out out' status gives p = record {
   answer = λ d. let found = p.answer d in (found.0, inr (value, gives, found.1), found.2);
   read_fault = λ e. let found = p.read_fault e in (found.0, found.1, found.2, (value, gives, found.3), found.4);
-  write_fault = λ e. let found = p.write_fault e in (found.0, found.1, found.2, (value, gives, found.3), found.4);
+  write_fault = λ e. let found = p.write_fault e in (found.0, found.1, found.2, found.3, (value, gives, found.4));
 }
 
 pub stage_told : {A : Type 0} (stage : Stage A) (work : A → Work) (room : ℕ) (value : A)
     (before left out out' : Option (List ℕ)) (status : Status)
-    → stage (Ok value) → SourceMeets (work value room) before left out out' status
+    → stage (Ok value) → (work value room).most ≤ room + 1 → SourceMeets (work value room) before left out out' status
     → SourceMeets (staged stage work room) before left out out' status
-stage_told stage work room value before left out out' status gives p = record {
+stage_told stage work room value before left out out' status gives most p = record {
   read = p.read;
   consumed = p.consumed;
+  few = let few : length p.read ≤ room + 1 = omega (arith, p.few, most) in few;
   meets = λ rest tells. stage_meets stage work room value (p.read ++ rest) rest out out' status gives (p.meets rest tells);
 }

@@ -1,6 +1,6 @@
 -- What `exec` comes to.
-use Rattle.std.proofs.Common.{◌≡◌, ◌≤◌, ◌-◌, ◌&&◌, ◌||◌, ℕ, Bool, true, false, List, [], ◌∷◌, ◌++◌, None}
-use Rattle.std.proofs.Common.{Some, Ok, Err, Vec, length, cond, refl, sym, ap, subst, ◌∙◌, inl, inr}
+use Rattle.std.proofs.Common.{◌≡◌, ◌≤◌, ◌+◌, ◌-◌, ◌&&◌, ◌||◌, ℕ, Bool, true, false, List, [], ◌∷◌, ◌++◌, None}
+use Rattle.std.proofs.Common.{Some, Ok, Err, Vec, length, cond, refl, sym, ap, subst, ◌∙◌, arith, inl, inr}
 use Rattle.std.specs.declared.option.Option.{Option}
 use Rattle.std.specs.Io.KnownBytes.{Consumes}
 use Rattle.io_edge.specs.Told.{IsOver}
@@ -39,7 +39,7 @@ use Rattle.commands.specs.Input.Outcomes.{SourceMeets}
 use Rattle.commands.proofs.Inputs.FrontLemmas.{IsFront, asks_read_fault, asks_too_long, front_refused, text_told}
 use Rattle.commands.proofs.Inputs.Stages.{admitted_same}
 use Rattle.commands.proofs.Inputs.Within.{told_within}
-use Rattle.commands.proofs.Inputs.OutcomeLemmas.{told_nothing}
+use Rattle.commands.proofs.Inputs.OutcomeLemmas.{all_few, told_nothing}
 use Rattle.commands.proofs.StreamLemmas.{mapping_within}
 
 -- The front
@@ -129,28 +129,34 @@ pub exec_unread : (schedule : Plan) (before after out : Option (List ℕ)) (take
     → SourceMeets (exec_outcomes schedule) before after out out (status_of_part fault)
 exec_unread schedule before after out taken read rest_fault.TooLong consumed given =
     front_refused (part 1048576) (loaded schedule) exec_work before after out taken (TooLong 1048576)
-    (asks_too_long (part 1048576) (loaded schedule) before after taken read consumed given) (λ e. cc)
+    (asks_too_long (part 1048576) (loaded schedule) before after taken read consumed (omega (arith, given.0)) given.1)
+    (λ e. cc)
 exec_unread schedule before after out taken read rest_fault.ReadFault consumed given =
     front_refused (part 1048576) (loaded schedule) exec_work before after out taken ReadFault
-    (asks_read_fault (part 1048576) (loaded schedule) before after taken read consumed (record { unended = given.unended; short = given.short })) (λ e. cc)
-exec_unread schedule before after out taken read rest_fault.NoMemory consumed given = told_nothing (exec_outcomes schedule) before after out read consumed
+    (asks_read_fault (part 1048576) (loaded schedule) before after taken read consumed (omega (arith, given.short))
+    (record { unended = given.unended; short = given.short })) (λ e. cc)
+exec_unread schedule before after out taken read rest_fault.NoMemory consumed given =
+    let few : length read ≤ limit + 1 = omega (arith, given) in
+    told_nothing (exec_outcomes schedule) before after out read consumed few
 
 -- its program runs
 pub exec_told : (schedule : Plan) (program : Program) (front : Vec ℕ Global)
     (before mid left out out' : Option (List ℕ)) (taken : ℕ) (read text : List ℕ) (status : Status)
-    → Consumes before mid read → taken ≡ length read → IsWholePart read (IsOver mid) text → length text ≤ 1048576
+    → Consumes before mid read → length read ≤ limit → taken ≡ length read → IsWholePart read (IsOver mid) text
+    → length text ≤ 1048576
     → loaded schedule text (Ok (plain_program program)) → front.items ≡ []
     → SourceMeets (stream_work (record { program = program; front = front; lines = false }) (order.Turns schedule) (limit - taken)) mid left out out' status
     → SourceMeets (exec_outcomes schedule) before left out out' status
-exec_told schedule program front before mid left out out' taken read text status consumed count whole short load alone p =
+exec_told schedule program front before mid left out out' taken read text status consumed few count whole short load alone p =
     let own : PlainProgram = plain_program program in
     let turns = turns_of schedule program.procs in
     let Writes : List (List ℕ) → List ℕ → Type 0 = λ vectors t. t ≡ front.items ++ texts (run_text false (plain_code own) turns) vectors in
     let Wanted : List (List ℕ) → List ℕ → Type 0 = λ vectors t. t ≡ lines (result_of own) vectors in
     let passes = loaded_passes schedule text own load in
     text_told (part 1048576) (loaded schedule) exec_work (part_is_front 1048576) before mid left out out' taken read text
-    own status consumed count whole.parts short load
+    own status consumed few count whole.parts short load (all_few (limit - taken))
     (told_within (stream_work (record { program = program; front = front; lines = false }) (order.Turns schedule) (limit - taken)) (exec_work own (limit - taken)) mid left out out' status
-    (mapping_within own.size own.modulus Writes Wanted (limit - taken) (λ ts t written.
+    (mapping_within own.size own.modulus Writes Wanted (limit - taken) (omega (arith, program.header.of_size.0))
+    (λ ts t written.
     let vectors = vectors_of own.size own.modulus ts in
     written ∙ ap (λ l. l ++ texts (run_text false (plain_code own) turns) vectors) alone ∙ same_lines own turns passes vectors)) p)

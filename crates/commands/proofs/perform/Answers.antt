@@ -5,7 +5,7 @@ use Rattle.commands.specs.Equations.Requests.{outcomes_by_request, work_for}
 use Rattle.commands.specs.Input.Asking.{spelt}
 use Rattle.commands.specs.Input.Commands.{procs_named}
 use Rattle.commands.specs.Input.Stage.{◌>>=◌, status_of}
-use Rattle.commands.proofs.Performs.{by_line, request_within}
+use Rattle.commands.proofs.Performs.{by_line, performs_within, request_within}
 use Rattle.commands.proofs.Inputs.FrontLemmas.{front_refused, front_told}
 use Rattle.commands.proofs.Inputs.LineLemmas.{line_is_front}
 use Rattle.commands.proofs.Inputs.Within.{told_within}
@@ -26,4 +26,5 @@ returns-clause-told g c =
     let status = status_of c.perform_for.result in
     told_within (by_line command) (outcomes_by_request command) _ _ _ _ status (request_within command)
     (front_told (line 256) (line_is_front 256) (λ text. spelt text >>= turned (procs_named command)) (work_for command) _ _ _ c.ask.new.feed.taken c.in_ok-request.request
-    _ _ status c.in_ok-request.ensures.told c.perform_for.ensures.told)
+    _ _ status c.in_ok-request.ensures.told (performs_within command c.in_ok-request.request _)
+    c.perform_for.ensures.told)

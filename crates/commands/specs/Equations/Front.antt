@@ -1,6 +1,6 @@
 -- The front of an input, by which a command goes, and what is right for a command after it.
-use Rattle.std.specs.Prelude.{◌≡◌, ◌⊎◌, ℕ, ◌-◌, ◌≤◌, ◌==◌, nat_le, Bool, true, false, List, [], length, Ok, Err, Result}
-use Rattle.std.specs.Prelude.{if◌then◌else◌}
+use Rattle.std.specs.Prelude.{◌≡◌, ◌⊎◌, ℕ, ◌+◌, ◌-◌, ◌≤◌, ◌==◌, nat_le, Bool, true, false, List, [], length, Ok, Err}
+use Rattle.std.specs.Prelude.{Result, if◌then◌else◌}
 use Rattle.std.specs.List.{before_first, after_first, list_any}
 use Rattle.io_edge.specs.Feed.{limit}
 use Rattle.data_stream.specs.Parts.Part.{first_part, second_part, has_empty_line}
@@ -73,17 +73,19 @@ Work = ℕ → Outcomes
 -- what is right for a command: what is answered, and what a fault of the outside leaves of it
 abbrev pub by_front : {A : Type 0} → Front → (List ℕ → Stage A) → (A → Work) → Outcomes
 by_front {A} front orders work = record {
+  most = limit + 1;
   answer = answered front orders (λ (value : A) room. (work value room).answer);
   broken = λ read ended. IsBrokenBy (MayGoOn front read) (HasEnded front read ended) (ordered front orders read)
       (λ (value : A). (work value (room_behind front read)).broken (front.behind read) ended);
-  cut = λ read left. IsCutBy (HasEnded front read (left ≡ [])) (ordered front orders read)
-      (λ (value : A). (work value (room_behind front read)).cut (front.behind read) left);
+  cut = λ read left text taken. IsCutBy (HasEnded front read (left ≡ [])) (ordered front orders read)
+      (λ (value : A). (work value (room_behind front read)).cut (front.behind read) left text taken);
 }
 
 -- a further stage after a front, and then the work
 abbrev pub staged : {A : Type 0} → Stage A → (A → Work) → Work
 staged {A} stage work room = record {
+  most = room + 1;
   answer = λ bytes. IsAnswerBy stage (λ (value : A). (work value room).answer bytes);
   broken = λ read ended text. (value : A) × stage (Ok value) × (work value room).broken read ended text;
-  cut = λ read left text. (value : A) × stage (Ok value) × (work value room).cut read left text;
+  cut = λ read left text taken. (value : A) × stage (Ok value) × (work value room).cut read left text taken;
 }

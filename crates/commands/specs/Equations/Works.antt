@@ -1,6 +1,6 @@
 -- What a command does after its front: it writes a text, or one for the vectors of the data, or it judges all that
 -- is there.
-use Rattle.std.specs.Prelude.{◌≡◌, ◌⊎◌, ℕ, ◌≤◌, List, [], ◌∷◌, length, Result}
+use Rattle.std.specs.Prelude.{◌≡◌, ◌⊎◌, ℕ, ◌+◌, ◌%◌, ◌≤◌, List, [], ◌∷◌, ◌++◌, length, Result}
 use Rattle.plan_cert.specs.declared.verdict.Verdict.{Verdict}
 use Rattle.data_stream.specs.Data.{tokens, closed_part}
 use Rattle.spiral_words.specs.declared.statuses.status.Status.{Status}
@@ -20,9 +20,10 @@ printed IsText room bytes status text = (status ≡ Success) × IsText text
 
 abbrev pub writing : (List ℕ → Type 0) → Work
 writing IsText room = record {
+  most = 0;
   answer = printed IsText room;
   broken = λ read ended text. ⊥;
-  cut = λ read left text. (read ≡ []) × IsText text;
+  cut = λ read left text taken. (read ≡ []) × IsText text;
 }
 
 -- It goes over the data
@@ -54,14 +55,33 @@ abbrev pub ReadsOn : Wants → List (List ℕ) → Type 0
 ReadsOn the_first vectors = vectors ≡ []
 ReadsOn _ vectors = Unit {0}
 
+-- what was taken begins with the text of all these vectors but the last
+pub record HasAllButLast (IsText : List (List ℕ) → List ℕ → Type 0) (vectors : List (List ℕ))
+    (taken : List ℕ) : Type 0 where
+  pub ahead : List (List ℕ)
+  pub last : List ℕ
+  pub whole : vectors ≡ ahead ++ last ∷ []
+  pub text : List ℕ
+  pub right : IsText ahead text
+  pub rest : List ℕ
+  pub begins : taken ≡ text ++ rest
+
+-- Nothing is read after a failed write: it came before the data were read, or at the text of their last vector, and no
+-- number was read after that vector
+abbrev pub StopsAtLast : ℕ → (List (List ℕ) → List ℕ → Type 0) → List ℕ → List (List ℕ) → List ℕ → Type 0
+StopsAtLast size IsText read vectors taken =
+    (read ≡ []) ⊎ ((length (tokens read) % size ≡ 0) × HasAllButLast IsText vectors taken)
+
 -- By a failed read or write, the last token counts only where nothing is left with which it may go on
 abbrev pub mapping : Wants → (size modulus : ℕ) → (List (List ℕ) → List ℕ → Type 0) → Work
 mapping wants size modulus IsText room = record {
+  most = room + 1;
   answer = mapped_by wants size modulus IsText room;
   broken = λ read ended text. IsFine room read × ReadsOn wants (vectors_of size modulus (tokens (closed_part read)))
       × IsText (vectors_of size modulus (tokens (closed_part read))) text;
-  cut = λ read left text. IsFine room read × ((closed_part read ≡ read) ⊎ (left ≡ []))
-      × IsText (vectors_of size modulus (tokens read)) text;
+  cut = λ read left text taken. IsFine room read × ((closed_part read ≡ read) ⊎ (left ≡ []))
+      × IsText (vectors_of size modulus (tokens read)) text
+      × StopsAtLast size IsText read (vectors_of size modulus (tokens read)) taken;
 }
 
 -- a text for the vectors after the first. Before that is there, nothing is written
@@ -83,7 +103,9 @@ judged_by IsVerdict room bytes status text = IsOverlong bytes status text
 
 abbrev pub judging : (List ℕ → Verdict → Type 0) → Work
 judging IsVerdict room = record {
+  most = room + 1;
   answer = judged_by IsVerdict room;
   broken = λ read ended text. (length read ≤ certificate_limit) × (text ≡ []);
-  cut = λ read left text. (left ≡ []) × (length read ≤ certificate_limit) × IsJudged IsVerdict read Success text;
+  cut = λ read left text taken.
+      (left ≡ []) × (length read ≤ certificate_limit) × IsJudged IsVerdict read Success text;
 }

@@ -19,9 +19,10 @@ use Rattle.commands.specs.Input.Line.{IsWhole}
 abbrev pub GivesText : List ℕ → Type 0 → ℕ → Result (Vec ℕ Global) RestFault → Type 0
 GivesText read ended taken (Ok text) = (taken ≡ length read) × (length text.items ≤ 65536)
     × (length read ≤ length text.items + 1) × IsWhole (line 65536) read ended text.items
-GivesText read ended taken (Err rest.TooLong) = (more : List ℕ) → 65536 < length ((line 65536).first (read ++ more))
+GivesText read ended taken (Err rest.TooLong) =
+    (length read ≤ 65537) × ((more : List ℕ) → 65536 < length ((line 65536).first (read ++ more)))
 GivesText read ended taken (Err rest.ReadFault) = MayGoOn (line 65536) read
-GivesText read ended taken (Err rest.NoMemory) = Unit {0}
+GivesText read ended taken (Err rest.NoMemory) = length read ≤ 65537
 
 -- the same, for a call that says why there is none
 abbrev pub GivesFormula : List ℕ → Type 0 → ℕ → Result (Vec ℕ Global) Status → Type 0

@@ -1,7 +1,8 @@
 -- From the front of an input to what it orders.
-use Rattle.std.specs.Prelude.{◌≡◌, ℕ, List, [], ◌++◌, length, Ok, Err, Result}
+use Rattle.std.specs.Prelude.{◌≡◌, ◌≤◌, ℕ, List, [], ◌++◌, length, Ok, Err, Result}
 use Rattle.std.specs.declared.option.Option.{Option}
 use Rattle.std.specs.Io.KnownBytes.{Consumes}
+use Rattle.io_edge.specs.Feed.{limit}
 use Rattle.io_edge.specs.Told.{IsOver}
 use Rattle.matrix_meaning.specs.declared.Request.{Request}
 use Rattle.request_text.specs.declared.RequestFault.{RequestFault}
@@ -33,4 +34,5 @@ pub record Asks {A : Type 0} (front : Front) (orders : List ℕ → Stage A) (be
     (result : Result A Status) : Type 0 where
   pub read : List ℕ
   pub consumed : Consumes before after read
+  pub few : length read ≤ limit
   pub asks : AsksBy front orders read (IsOver after) taken result

@@ -15,4 +15,5 @@ abbrev pub GivesLine : List ℕ → Type 0 → ℕ → List ℕ → Result ℕ F
 GivesLine read ended taken buffer (Ok count) =
     (taken ≡ length read) × (count ≤ 256) × (taken ≤ count + 1) × IsWhole (line 256) read ended (take count buffer)
 GivesLine read ended taken buffer (Err ReadFault) = MayGoOn (line 256) read
-GivesLine read ended taken buffer (Err feed.TooLong) = (more : List ℕ) → 256 < length ((line 256).first (read ++ more))
+GivesLine read ended taken buffer (Err feed.TooLong) =
+    (length read ≤ 257) × ((more : List ℕ) → 256 < length ((line 256).first (read ++ more)))

@@ -1,5 +1,5 @@
 -- What is right for a call, and what a fault of the outside leaves of it.
-use Rattle.std.specs.Prelude.{◌≡◌, ℕ, List, [], ◌++◌}
+use Rattle.std.specs.Prelude.{◌≡◌, ◌≤◌, ℕ, List, [], ◌++◌, length}
 use Rattle.std.specs.declared.option.Option.{Option}
 use Rattle.std.specs.Io.KnownBytes.{Appends, Consumes}
 use Rattle.io_edge.specs.Taken.{AppendsPrefix}
@@ -10,12 +10,14 @@ use Rattle.spiral_words.specs.declared.statuses.status.Status.TheVariants.{ReadF
 
 -- what is right for a call
 pub record Outcomes : Type 1 where
+  -- how many bytes of its input are read at most
+  pub most : ℕ
   -- the status and the text for the bytes of its input
   pub answer : List ℕ → Status → List ℕ → Type 0
   -- the text up to a failed read, by the bytes that were read, and whether they are all
   pub broken : List ℕ → Type 0 → List ℕ → Type 0
-  -- the text up to a failed write, by the bytes that were read and those that are left
-  pub cut : List ℕ → List ℕ → List ℕ → Type 0
+  -- the text at which a write failed and what was taken of it, by the bytes that were read and those that are left
+  pub cut : (read left text taken : List ℕ) → Type 0
 
 -- status and output are right, by all the bytes that were to come and by those that are left of them
 pub record Meets (outcomes : Outcomes) (bytes left : List ℕ) (before after : Option (List ℕ))
@@ -27,7 +29,7 @@ pub record Meets (outcomes : Outcomes) (bytes left : List ℕ) (before after : O
       × outcomes.broken read (left ≡ []) text × Appends before after text
   -- a write failed at a text, of which the output took a front
   pub write_fault : status ≡ WriteFault → (read text : List ℕ) × (bytes ≡ read ++ left)
-      × outcomes.cut read left text × AppendsPrefix before after text
+      × (took : AppendsPrefix before after text) × outcomes.cut read left text took.front
 
 -- These bytes came, and with all that may be left status and output are right. A source that does not tell its bytes
 -- may have any left
@@ -35,4 +37,5 @@ pub record SourceMeets (outcomes : Outcomes) (source source' before after : Opti
     (status : Status) : Type 0 where
   pub read : List ℕ
   pub consumed : Consumes source source' read
+  pub few : length read ≤ outcomes.most
   pub meets : (left : List ℕ) → Tells source' left → Meets outcomes (read ++ left) left before after status

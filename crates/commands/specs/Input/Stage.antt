@@ -54,6 +54,6 @@ IsBrokenBy {A} unended ended stage BreaksOff text =
     (unended × (text ≡ []))
     ⊎ ((value : A) × HasGiven ended stage value × BreaksOff value text)
 
--- The text up to a failed write: the front has ended, and the text is right for the value
-abbrev pub IsCutBy : {A : Type 0} → Type 0 → Stage A → (A → List ℕ → Type 0) → List ℕ → Type 0
-IsCutBy {A} ended stage ComesTo text = (value : A) × HasGiven ended stage value × ComesTo value text
+-- Up to a failed write: the front has ended, and what was to be written is right for the value
+abbrev pub IsCutBy : {A : Type 0} → Type 0 → Stage A → (A → Type 0) → Type 0
+IsCutBy {A} ended stage IsCut = (value : A) × HasGiven ended stage value × IsCut value

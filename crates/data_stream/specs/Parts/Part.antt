@@ -46,6 +46,6 @@ pub record IsWholePart (read : List ℕ) (ended : Type 0) (part : List ℕ) : Ty
 -- the answer to a request for the first part, by the bytes that were read, and how many were taken before and then
 abbrev pub GivesPart : ℕ → List ℕ → Type 0 → ℕ → ℕ → Result (Vec ℕ Global) RestFault → Type 0
 GivesPart most read ended before taken (Ok text) = (taken ≡ before + length read) × (length text.items ≤ most) × (length read ≤ length text.items + 1) × IsWholePart read ended text.items
-GivesPart most read ended before taken (Err TooLong) = (more : List ℕ) → most < length (first_part (read ++ more))
+GivesPart most read ended before taken (Err TooLong) = (length read ≤ most + 1) × ((more : List ℕ) → most < length (first_part (read ++ more)))
 GivesPart most read ended before taken (Err ReadFault) = IsInPart most read
-GivesPart most read ended before taken (Err NoMemory) = Unit {0}
+GivesPart most read ended before taken (Err NoMemory) = length read ≤ most + 1

@@ -9,4 +9,4 @@ abbrev pub GivesRest : ℕ → List ℕ → Type 0 → Result (Vec ℕ Global) R
 GivesRest most read ended (Ok text) = (text.items ≡ read) × ended × (length read ≤ most)
 GivesRest most read ended (Err TooLong) = length read ≡ most + 1
 GivesRest most read ended (Err ReadFault) = length read ≤ most
-GivesRest most read ended (Err NoMemory) = Unit {0}
+GivesRest most read ended (Err NoMemory) = length read ≤ most + 1

@@ -1,4 +1,4 @@
-use Rattle.std.proofs.Common.{◌-◌, refl, rules}
+use Rattle.std.proofs.Common.{◌≤◌, ◌+◌, ◌-◌, arith, length, refl, rules}
 use Rattle.std.proofs.lemmas.Result.{err_from_is_err_and}
 use Rattle.std.proofs.KnownBytes.{Appends-nil}
 use Rattle.io_edge.specs.Feed.{limit}
@@ -22,25 +22,28 @@ returns-in_err-text-clause-told g c =
     let answer = c.in_err-text.ensures.answer in
     let p = err_from_is_err_and c.from_residual-in_err-text.result c.from_residual-in_err-text.ensures.1 in
     rw (p.1, p.2) (check_unread c.args.request.now (limit - c.args.feed.now.taken) _ _ _ answer.0 c.in_err-text.field-0.0
+    (omega (arith, c.requires.line))
     c.in_ok-admit.ensures.admitted answer.1 answer.2)
 
 pub returns-in_err-write_least-in-Least-clause-told : goal.returns-in_err-write_least-in-Least-clause-told
 returns-in_err-write_least-in-Least-clause-told g c =
     let p = err_from_is_err_and c.from_residual-in_err-write_least-in-Least.result c.from_residual-in_err-write_least-in-Least.ensures.1 in
-    rw (p.1, p.2) (check_cut c.args.request.now (limit - c.args.feed.now.taken) _ _ _ _ c.in-Least.cost c.in_ok-admit.ensures.admitted
+    rw (p.1, p.2) (check_cut c.args.request.now (limit - c.args.feed.now.taken) _ _ _ _ c.in-Least.cost (omega (arith, c.requires.line)) c.in_ok-admit.ensures.admitted
     (found_of _ c.new.result _ _ c.in_ok-text.text c.deref.result.now _ c.in_ok-cost.field-0 c.in_ok-text.ensures.answer
     c.new.ensures c.deref.ensures.value c.in-Least.is c.in_ok-cost.ensures.verdict) c.in_err-write_least-in-Least.ensures.bytes)
 
 pub returns-in-Least-clause-told : goal.returns-in-Least-clause-told
 returns-in-Least-clause-told g c =
-    check_judged c.args.request.now (limit - c.args.feed.now.taken) _ _ _ _ (verdict.Least c.in-Least.cost) c.in_ok-admit.ensures.admitted
+    check_judged c.args.request.now (limit - c.args.feed.now.taken) _ _ _ _ (verdict.Least c.in-Least.cost)
+    (omega (arith, c.requires.line)) c.in_ok-admit.ensures.admitted
     (found_of _ c.new.result _ _ c.in_ok-text.text c.deref.result.now _ c.in_ok-cost.field-0 c.in_ok-text.ensures.answer
     c.new.ensures c.deref.ensures.value c.in-Least.is c.in_ok-cost.ensures.verdict) c.in_ok-write_least-in-Least.ensures.bytes
 
 pub returns-in-Unread-clause-told : goal.returns-in-Unread-clause-told
 returns-in-Unread-clause-told g c =
     let out = g.O.Sink.taken c.args.output.now in
-    check_judged c.args.request.now (limit - c.args.feed.now.taken) _ _ out out verdict.Unread c.in_ok-admit.ensures.admitted
+    check_judged c.args.request.now (limit - c.args.feed.now.taken) _ _ out out verdict.Unread
+    (omega (arith, c.requires.line)) c.in_ok-admit.ensures.admitted
     (found_of _ c.new.result _ _ c.in_ok-text.text c.deref.result.now _ c.in_ok-cost.field-0 c.in_ok-text.ensures.answer
     c.new.ensures c.deref.ensures.value c.in-Unread.is c.in_ok-cost.ensures.verdict) (Appends-nil out)
 
@@ -48,7 +51,7 @@ pub returns-clause-told : goal.returns-clause-told
 returns-clause-told g c =
     let out = g.O.Sink.taken c.args.output.now in
     check_judged c.args.request.now (limit - c.args.feed.now.taken) _ _ out out (verdict.Wrong c.in-Wrong.size c.in-Wrong.given c.in-Wrong.found)
-    c.in_ok-admit.ensures.admitted
+    (omega (arith, c.requires.line)) c.in_ok-admit.ensures.admitted
     (found_of _ c.new.result _ _ c.in_ok-text.text c.deref.result.now _ c.in_ok-cost.field-0 c.in_ok-text.ensures.answer
     c.new.ensures c.deref.ensures.value c.in-Wrong.is c.in_ok-cost.ensures.verdict) (Appends-nil out)
 
@@ -68,4 +71,5 @@ pub returns-in_err-cost-clause-told : goal.returns-in_err-cost-clause-told
 returns-in_err-cost-clause-told g c =
     let answer = c.in_ok-text.ensures.answer in
     let p = err_from_is_err_and c.from_residual-in_err-cost.result c.from_residual-in_err-cost.ensures.1 in
-    rw (p.1, p.2) (told_nothing _ _ _ _ answer.0 answer.1)
+    let few : length answer.0 ≤ limit - c.args.feed.now.taken + 1 = omega (arith, answer.2.2, c.requires.line) in
+    rw (p.1, p.2) (told_nothing _ _ _ _ answer.0 answer.1 few)

@@ -10,6 +10,7 @@ use Rattle.commands.specs.Input.Stage.{◌>>=◌, status_of}
 use Rattle.commands.proofs.ConvolutionLemmas.ConvolvedLemmas.{by_line, list_within}
 use Rattle.commands.proofs.Inputs.FrontLemmas.{front_refused, front_told}
 use Rattle.commands.proofs.Inputs.LineLemmas.{line_is_front}
+use Rattle.commands.proofs.Inputs.OutcomeLemmas.{all_few}
 use Rattle.commands.proofs.Inputs.Within.{told_within}
 use Rattle.commands.proofs.convolutions.convolve.Goals as goal
 
@@ -29,7 +30,7 @@ returns-then-code-clause-told g c =
     let status = status_of c.print_convolver.result in
     rw c.if-code.true (told_within (by_line schedule true) (outcomes_by_list schedule true) _ _ _ _ status (list_within schedule true)
     (front_told (line 256) (line_is_front 256) (λ text. conv_spelt text >>= turned (named schedule)) (work_by_list true) _ _ _ c.ask_conv.new.feed.taken c.in_ok-request.request
-    _ _ status c.in_ok-request.ensures.told c.print_convolver.ensures.told))
+    _ _ status c.in_ok-request.ensures.told (all_few _) c.print_convolver.ensures.told))
 
 pub returns-else-code-clause-told : goal.returns-else-code-clause-told
 returns-else-code-clause-told g c =
@@ -37,4 +38,4 @@ returns-else-code-clause-told g c =
     let status = status_of c.run_convolver.result in
     rw c.if-code.false (told_within (by_line schedule false) (outcomes_by_list schedule false) _ _ _ _ status (list_within schedule false)
     (front_told (line 256) (line_is_front 256) (λ text. conv_spelt text >>= turned (named schedule)) (work_by_list false) _ _ _ c.ask_conv.new.feed.taken c.in_ok-request.request
-    _ _ status c.in_ok-request.ensures.told c.run_convolver.ensures.told))
+    _ _ status c.in_ok-request.ensures.told (all_few _) c.run_convolver.ensures.told))

@@ -1,4 +1,4 @@
-use Rattle.std.proofs.Common.{◌≡◌, ◌<◌, ◌-◌, All, length, refl, ap, subst, sym, ◌∙◌}
+use Rattle.std.proofs.Common.{◌≡◌, ◌<◌, ◌≤◌, ◌+◌, ◌-◌, All, arith, length, refl, ap, subst, sym, ◌∙◌}
 use Rattle.std.proofs.lemmas.Result.{err_from_is_err_and}
 use Rattle.std.proofs.lemmas.List.{with_items_is}
 use Rattle.generate.specs.Convolver.{IsConvolver}
@@ -71,4 +71,7 @@ pub returns-in_err-program-clause-told : goal.returns-in_err-program-clause-told
 returns-in_err-program-clause-told g c =
     let progress = c.in_ok-read_first.ensures.come.progress in
     let p = err_from_is_err_and c.from_residual-in_err-program.result c.from_residual-in_err-program.ensures.1 in
-    rw (p.1, p.2) (λ code out. told_nothing _ _ _ out progress.bytes progress.consumed)
+    let within = c.in_ok-read_first.ensures.within (λ e. cc) in
+    let few : length progress.bytes ≤ limit - c.args.feed.now.taken + 1 =
+    omega (arith, progress.taken, c.requires.within, within) in
+    rw (p.1, p.2) (λ code out. told_nothing _ _ _ out progress.bytes progress.consumed few)

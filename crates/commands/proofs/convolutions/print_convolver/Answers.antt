@@ -1,4 +1,5 @@
-use Rattle.std.proofs.Common.{◌<◌, arith, true}
+use Rattle.std.proofs.Common.{◌<◌, ◌≤◌, ◌+◌, ◌-◌, arith, length, true}
+use Rattle.io_edge.specs.Feed.{limit}
 use Rattle.std.proofs.lemmas.Result.{err_from_is_err_and}
 use Rattle.commands.proofs.ConvolutionLemmas.ConvolvedLemmas.{convolves_listing, convolves_cut}
 use Rattle.data_stream.proofs.TokensLemmas.{reports_none}
@@ -41,4 +42,6 @@ pub returns-in_err-listing-clause-told : goal.returns-in_err-listing-clause-told
 returns-in_err-listing-clause-told g c =
     let progress = c.in_ok-program.ensures.come.progress in
     let p = err_from_is_err_and c.from_residual-in_err-listing.result c.from_residual-in_err-listing.ensures.1 in
-    rw (p.1, p.2) (told_nothing _ _ _ _ progress.bytes progress.consumed)
+    let few : length progress.bytes ≤ limit - c.args.feed.now.taken + 1 =
+    omega (arith, progress.taken, c.requires.within, c.in_ok-program.ensures.within) in
+    rw (p.1, p.2) (told_nothing _ _ _ _ progress.bytes progress.consumed few)

@@ -1,8 +1,8 @@
-use Rattle.std.proofs.Common.{◌<◌, ◌∷◌, [], Ok, Err, arith, refl, false}
+use Rattle.std.proofs.Common.{◌<◌, ◌≤◌, ◌+◌, ◌-◌, ◌∷◌, [], Ok, Err, arith, length, refl, false}
 use Rattle.std.proofs.lemmas.Result.{err_from_is_err_and}
 use Rattle.data_stream.proofs.TokensLemmas.{reports_none}
 use Rattle.icode.specs.Machine.{runs}
-use Rattle.io_edge.specs.Feed.{to_come}
+use Rattle.io_edge.specs.Feed.{limit, to_come}
 use Rattle.spiral_words.specs.declared.statuses.status.Status.TheVariants.{NoMemory}
 use Rattle.schedules.specs.Turns.{turns_of}
 use Rattle.commands.proofs.ConvolutionLemmas.ConvolvedLemmas.{list_come, convolves_run}
@@ -82,4 +82,6 @@ pub returns-in_err-machine-clause-told : goal.returns-in_err-machine-clause-told
 returns-in_err-machine-clause-told g c =
     let progress = c.in_ok-program.ensures.come.progress in
     let p = err_from_is_err_and c.from_residual-in_err-machine.result c.from_residual-in_err-machine.ensures.1 in
-    rw (p.1, p.2) (told_nothing _ _ _ _ progress.bytes progress.consumed)
+    let few : length progress.bytes ≤ limit - c.args.feed.now.taken + 1 =
+    omega (arith, progress.taken, c.requires.within, c.in_ok-program.ensures.within) in
+    rw (p.1, p.2) (told_nothing _ _ _ _ progress.bytes progress.consumed few)

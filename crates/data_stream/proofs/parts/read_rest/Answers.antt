@@ -18,8 +18,9 @@ pub returns-in_err-append-clause-answer : goal.returns-in_err-append-clause-answ
 returns-in_err-append-clause-answer g c =
     let given = rw c.in-Some.is at c.in_ok-byte.ensures.answer in
     let before = c.loop-text in
+    let grown = length-append before.text.items (c.in-Some.byte ∷ []) in
     let p = err_from_is_err_and c.from_residual-in_err-append.result c.from_residual-in_err-append.ensures.1 in (
       before.text.items ++ c.in-Some.byte ∷ [],
       Consumes-trans _ (to_come before.feed (g.S.Source.left before.source)) _ before.text.items (c.in-Some.byte ∷ []) before.invariant.consumed given.0,
-      rw (p.1, p.2) tt,
+      rw (p.1, p.2) (omega (arith, grown, before.invariant.short)),
     )

@@ -84,7 +84,7 @@ returns-in_err-next-clause-streams g c =
       reads = subst (λ n. ReadsData n code.modulus old c.next.new.feed start reached (seen ++ inv.later) (Err (stream_fault fault))) inv.size
           (come_fault code.modulus before.vectors c.next.new.self.ended old before.feed c.next.new.feed start (to_come before.feed (g.I.Source.left before.input)) reached (seen ++ inv.later) answer.0 x fault
           some c.in_err-next.ensures.within answer.1 going given c.next.ensures.end (inv.come old start seen h));
-      wrote = writes_fault fault _ _ _ inv.wrote;
+      wrote = writes_fault fault _ _ _ _ inv.wrote;
       stands = λ _. inv.stands;
     })
 

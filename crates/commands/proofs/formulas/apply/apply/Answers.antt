@@ -1,4 +1,4 @@
-use Rattle.std.proofs.Common.{Err, subst}
+use Rattle.std.proofs.Common.{Err, arith, subst}
 use Rattle.std.proofs.lemmas.Result.{err_from_is_err_and}
 use Rattle.data_stream.proofs.TokensLemmas.{reports_none}
 use Rattle.schedules.specs.Turns.{named}
@@ -24,7 +24,7 @@ returns-in_err-program-clause-told g c =
     let refused = subst (λ t. IsDefined c.in_err-program.field-0.0 → formed (named c.args.schedule.now) t (Err c.in_err-program.field-0.0)) c.deref.ensures.value c.in_err-program.ensures.refused in
     let p = err_from_is_err_and c.from_residual-in_err-program.result c.from_residual-in_err-program.ensures.1 in
     rw (p.1, p.2) (text_refused (line 65536) (formed (named c.args.schedule.now)) (apply_work c.args.modulus.now) _ _ _ c.formula_line.new.feed.taken told.0 c.in_ok-text.text.items c.in_err-program.field-0.0
-    told.1 told.2.3 told.2.1 refused c.in_err-program.ensures.refusal)
+    told.1 (omega (arith, told.2.1, told.2.2)) told.2.3 told.2.1 refused c.in_err-program.ensures.refusal)
 
 pub returns-clause-told : goal.returns-clause-told
 returns-clause-told g c =
@@ -32,7 +32,8 @@ returns-clause-told g c =
     let made = rw c.deref.ensures.value at c.in_ok-program.ensures.program in
     apply_told c.args.modulus.now c.args.schedule.now c.in_ok-program.program c.new.result _ _ _ _ _
     c.formula_line.new.feed.taken told.0 c.in_ok-text.text.items (status_of c.stream_turns.result)
-    told.1 told.2.0 told.2.3 told.2.1 made c.in_ok-program.ensures.turns c.new.ensures.items c.stream_turns.ensures.told
+    told.1 (omega (arith, told.2.1, told.2.2)) told.2.0 told.2.3 told.2.1 made c.in_ok-program.ensures.turns
+    c.new.ensures.items c.stream_turns.ensures.told
 
 pub returns-clause-ends : goal.returns-clause-ends
 returns-clause-ends g c =

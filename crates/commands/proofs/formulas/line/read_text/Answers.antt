@@ -43,19 +43,23 @@ returns-then-len-eq-FORMULA_LIMIT-clause-answer g c =
     let other : is_line_end c.in-Some.byte ≡ false = ne_eqb c.in-Some.byte 10 c.if-byte-eq10.false in (
       text ++ c.in-Some.byte ∷ [],
       Consumes-trans _ (to_come before.feed (g.S.Source.left before.source)) _ text (c.in-Some.byte ∷ []) before.invariant.consumed given.0,
-      λ more.
-          let longer = line_longer (text ++ c.in-Some.byte ∷ []) more (unended_push text c.in-Some.byte before.invariant.unended other) in
-          omega (arith, longer, grown, c.if-len-eq-FORMULA_LIMIT.true, c.len.ensures),
+      (
+        omega (arith, grown, before.invariant.short),
+        λ more.
+            let longer = line_longer (text ++ c.in-Some.byte ∷ []) more (unended_push text c.in-Some.byte before.invariant.unended other) in
+            omega (arith, longer, grown, c.if-len-eq-FORMULA_LIMIT.true, c.len.ensures),
+      ),
     )
 
 pub returns-in_err-append-clause-answer : goal.returns-in_err-append-clause-answer
 returns-in_err-append-clause-answer g c =
     let given = rw c.in-Some.is at c.in_ok-byte.ensures.answer in
     let before = c.loop-text in
+    let grown = length-append before.text.items (c.in-Some.byte ∷ []) in
     let p = err_from_is_err_and c.from_residual-in_err-append.result c.from_residual-in_err-append.ensures.1 in (
       before.text.items ++ c.in-Some.byte ∷ [],
       Consumes-trans _ (to_come before.feed (g.S.Source.left before.source)) _ before.text.items (c.in-Some.byte ∷ []) before.invariant.consumed given.0,
-      rw (p.1, p.2) tt,
+      rw (p.1, p.2) (omega (arith, grown, before.invariant.short)),
     )
 
 pub returns-clause-answer : goal.returns-clause-answer

@@ -35,9 +35,12 @@ returns-then-count-eq-LINE_LIMIT-clause-answer g c =
     let other : is_line_end c.in-Some.byte ≡ false = ne_eqb c.in-Some.byte 10 c.if-byte-eq10.false in (
       text ++ c.in-Some.byte ∷ [],
       Consumes-trans _ (to_come before.feed (g.S.Source.left before.source)) _ text (c.in-Some.byte ∷ []) before.invariant.consumed given.0,
-      λ more.
-          let longer = line_longer (text ++ c.in-Some.byte ∷ []) more (unended_push text c.in-Some.byte before.invariant.unended other) in
-          omega (arith, longer, grown, count, c.if-count-eq-LINE_LIMIT.true),
+      (
+        omega (arith, grown, count, before.invariant.short),
+        λ more.
+            let longer = line_longer (text ++ c.in-Some.byte ∷ []) more (unended_push text c.in-Some.byte before.invariant.unended other) in
+            omega (arith, longer, grown, count, c.if-count-eq-LINE_LIMIT.true),
+      ),
     )
 
 pub returns-clause-answer : goal.returns-clause-answer

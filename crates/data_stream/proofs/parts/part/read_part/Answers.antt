@@ -40,19 +40,23 @@ returns-then-len-most-clause-answer g c =
     let grown = length-append text (c.in-Some.byte ∷ []) in (
       text ++ c.in-Some.byte ∷ [],
       Consumes-trans _ (to_come before.feed (g.S.Source.left before.source)) _ text (c.in-Some.byte ∷ []) before.invariant.consumed given.0,
-      λ more.
-          let longer = part_longer (text ++ c.in-Some.byte ∷ []) more (ends_line c.in-Some.byte) (front_push text before.begins c.in-Some.byte before.invariant.front (sym c.ends_part.ensures ∙ c.if-ends_part.false)) in
-          omega (arith, longer, grown, c.if-len-most.true, c.len.ensures),
+      (
+        omega (arith, grown, before.invariant.short),
+        λ more.
+            let longer = part_longer (text ++ c.in-Some.byte ∷ []) more (ends_line c.in-Some.byte) (front_push text before.begins c.in-Some.byte before.invariant.front (sym c.ends_part.ensures ∙ c.if-ends_part.false)) in
+            omega (arith, longer, grown, c.if-len-most.true, c.len.ensures),
+      ),
     )
 
 pub returns-in_err-append-clause-answer : goal.returns-in_err-append-clause-answer
 returns-in_err-append-clause-answer g c =
     let given = rw c.in-Some.is at c.in_ok-byte.ensures.answer in
     let before = c.loop-text in
+    let grown = length-append before.text.items (c.in-Some.byte ∷ []) in
     let p = err_from_is_err_and c.from_residual-in_err-append.result c.from_residual-in_err-append.ensures.1 in (
       before.text.items ++ c.in-Some.byte ∷ [],
       Consumes-trans _ (to_come before.feed (g.S.Source.left before.source)) _ before.text.items (c.in-Some.byte ∷ []) before.invariant.consumed given.0,
-      rw (p.1, p.2) tt,
+      rw (p.1, p.2) (omega (arith, grown, before.invariant.short)),
     )
 
 pub returns-clause-answer : goal.returns-clause-answer
