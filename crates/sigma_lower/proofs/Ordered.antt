@@ -13,7 +13,7 @@ use Rattle.sigma_lower.proofs.TreeLoops.Emitted.{as_lowered, emitted-lowered}
 use Rattle.sigma_lower.proofs.TreeLoops.TreePasses.{back}
 use Rattle.sigma_lower.proofs.TreeLoops.Walks.{IsLaw, Keeps, Point, RightKeeps, begun, done, ready, right-law, settled}
 use Rattle.sigma_lower.proofs.TreeLoops.Walks.{steps-law, tiled}
-use Rattle.sigma_lower.proofs.TreeTerms.Both.{plain}
+use Rattle.sigma_lower.proofs.TreeTerms.Both.{plain_terms}
 use Rattle.sigma_lower.proofs.TreeTerms.RootTerms.{rule-shared, shared_terms}
 use Rattle.sigma_spl.specs.Loops.{InOrder}
 use Rattle.sigma_spl.specs.Loops as loops
@@ -212,7 +212,7 @@ trees_ordered c l valid shares good = pick (is_alone c) refl
     pick : (b : Bool) → is_alone c ≡ b → AllOrdered c (lowered_of c l)
     pick true is =
         let steps : Orders ready (map lowered (steps_of [] l)) done = orders-steps c.modulus [] l good in
-        subst (AllOrdered c) (sym (plain c l is))
+        subst (AllOrdered c) (sym (plain_terms c l is))
         (done-phase c (map lowered (steps_of [] l)) (law.weak begun done (map lowered (steps_of [] l)) steps), tt)
     pick false is =
         subst (AllOrdered c) (sym (shared_terms c l shares good is)) (root-ordered c l (shares.root is) good)

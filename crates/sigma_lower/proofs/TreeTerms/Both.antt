@@ -54,5 +54,5 @@ plain-made n m line ss =
     ap (λ ts. ts ∷ [])
     (ap (map (factor_term 1 1)) (sym (map-append kept (cut h ss).first (cut h ss).second) ∙ ap (map kept) (cut-factors h ss)) ∙ plain-flat n ss)
 
-pub plain : (h : Target) (l : Layout) → is_alone h ≡ true → lowered_of h l ≡ map lowered (steps_of [] l) ∷ []
-plain h l e = ap₂ (λ p v. made_of h.size h.modulus p v h.line (steps_of [] l)) (one_proc h e) (one_lane h e) ∙ plain-made h.size h.modulus h.line (steps_of [] l)
+pub plain_terms : (h : Target) (l : Layout) → is_alone h ≡ true → lowered_of h l ≡ map lowered (steps_of [] l) ∷ []
+plain_terms h l e = ap₂ (λ p v. made_of h.size h.modulus p v h.line (steps_of [] l)) (one_proc h e) (one_lane h e) ∙ plain-made h.size h.modulus h.line (steps_of [] l)

@@ -20,7 +20,7 @@ use Rattle.sigma_lower.proofs.TreeLoops.Walks.{right-law, settled, steps-law, ti
 use Rattle.sigma_lower.proofs.TreeLoops.SharedPasses.Naturals.{IsLoop, transform-loop, one-step, tile-loop}
 use Rattle.sigma_lower.proofs.TreeTerms.Vectors.{KeepsVectors, HasVectors, single-vectors, vectors-append}
 use Rattle.sigma_lower.proofs.TreeTerms.Vectors.{vectors-blocks, vectors-columns, keeps-wrapped}
-use Rattle.sigma_lower.proofs.TreeTerms.Both.{plain}
+use Rattle.sigma_lower.proofs.TreeTerms.Both.{plain_terms}
 use Rattle.sigma_lower.proofs.TreeTerms.RootTerms.{shared_terms, rule-fits, rule-shared}
 use Rattle.sigma_lower.proofs.TreeTerms.Behind.{within-append}
 
@@ -280,7 +280,7 @@ plain-framed c l good h =
 
 framed-from : (c : Target) (l : Layout) (b : Bool) → is_alone c ≡ b → CanShareLayout c l → IsGoodLayout c.modulus l →
     AllFramed c (merged_of c l)
-framed-from c l true e can good = subst (λ ts. AllFramed c (in_order (map passes_of_terms ts))) (sym (plain c l e)) (plain-framed c l good e)
+framed-from c l true e can good = subst (λ ts. AllFramed c (in_order (map passes_of_terms ts))) (sym (plain_terms c l e)) (plain-framed c l good e)
 framed-from c l false e can good =
     subst (λ ts. AllFramed c (in_order (map passes_of_terms ts))) (sym (shared_terms c l can good e)) (root-framed c l can.lanes (can.root e) good)
 
