@@ -22,8 +22,9 @@ use Rattle.spl_text.proofs.Fitted.{IsFitted, Fits, fitted_more, spelling_fitted}
 use Rattle.spl_text.proofs.Nested.{text_has, formula_nesting, read_is_printable}
 use Rattle.spl_text.proofs.Once.{once}
 use Rattle.spl_text.proofs.Parentheses.{spelling_balanced, shallow_by_count, shallow_both, within_shallow}
+use Rattle.spl_text.proofs.PartStops.{formula_stops}
 use Rattle.spl_text.proofs.Passing.{IsFlat, formula_keeps}
-use Rattle.spl_text.proofs.Stopping.{Stops, formula_stops, formula_took}
+use Rattle.spl_text.proofs.Stopping.{Stops, formula_took}
 use Rattle.spl_text.proofs.Whole.{text_answers, within}
 
 -- ---- a formula and what may stand behind it

@@ -10,6 +10,7 @@ pub mod Lengths
 pub mod Nested
 pub mod Once
 pub mod Parentheses
+pub mod PartStops
 pub mod Passing
 pub mod Printable
 pub mod ReadAgain
