@@ -20,7 +20,7 @@ use Rattle.fast_main.specs.Status.{status_of_check}
 use Rattle.fast_main.specs.Outcome.{TextsAreOfOneProgram}
 use Rattle.fast_main.specs.Translation.{IsWritten, KeepsInput, fast_text, takes_leftovers, wanted_words}
 use Rattle.fast_text.specs.WordTexts.{IsReadAs}
-use Rattle.fast_text.proofs.TextBack.{read_once}
+use Rattle.fast_text.proofs.TextBack.{read_once as text_read_once}
 use Rattle.fast_main.specs.Options.Asked.{Asked, asked}
 use Rattle.data_stream.specs.Parts.Part.{first_part}
 use Rattle.word_code.specs.declared.laziness.WordSize.{WordSize}
@@ -150,7 +150,7 @@ told_of wanted p = takes_leftovers (size_for wanted.size p) wanted.lanes p
 
 pub one_program_spelt : TextsAreOfOneProgram
 one_program_spelt a b bytes others text has same p q =
-    (read_once a.form has text (told_of a p.program) (told_of b q.program) (wanted_words a p.program)
+    (text_read_once a.form has text (told_of a p.program) (told_of b q.program) (wanted_words a p.program)
     (wanted_words b q.program) p.read_back
     (subst (λ form. IsReadAs form (told_of b q.program) text (wanted_words b q.program)) (sym same) q.read_back)).1
 

@@ -1,6 +1,5 @@
-use Rattle.std.proofs.Common.{Bool, List, ℕ, sym, ap, ap₂, ◌∙◌, subst}
+use Rattle.std.proofs.Common.{◌≡◌, Bool, List, ℕ, sym, ap, ap₂, ◌∙◌, subst}
 use Rattle.icode.specs.Program.{plain_program}
-use Rattle.word_code.specs.Views.{plain_word_program}
 use Rattle.word_code.specs.WordProgram.{PlainWordProgram}
 use Rattle.fast_text.specs.TextForm.{text_form}
 use Rattle.fast_text.specs.WordText.{words_text}
