@@ -301,7 +301,7 @@ spelt_of text f l = subst HasSpelling (sym l.ends.ends.1) l.begins.0
 pub written_shaped : (text : List ℕ) (f : Formula) → written text (Ok f) → IsShaped f
 written_shaped text f p =
     whole_shaped f (line_at (start text)) (line_shaped (start text)) (answer_is_read text (Ok f) p)
-        (spelt_of text f p.spelt)
+    (spelt_of text f p.spelt)
 
 pub written_few : (text : List ℕ) (f : Formula) → written text (Ok f) → parts_of f ≤ length text
 written_few text f p = few_parts text f p.spelt
