@@ -17,3 +17,14 @@ returns-in-Writes-clause-told g c =
     let status = status_of c.write_text.result in
     subst (λ (k : RequestCommand). SourceMeets (work_for k c.args.request.now room) start start out written status) (sym c.in-Writes.is)
     (unread_meets (work_for (command.Writes c.in-Writes.document) c.args.request.now room) start out written status (c.write_text.ensures.told room))
+
+pub returns-in-Judges-clause-told : goal.returns-in-Judges-clause-told
+returns-in-Judges-clause-told g c =
+    let start = to_come c.args.feed.now (g.I.Source.left c.args.input.now) in
+    let end = to_come c.check.new.feed (g.I.Source.left c.check.new.input) in
+    let out = g.O.Sink.taken c.args.output.now in
+    let written = g.O.Sink.taken c.check.new.output in
+    let room = limit - c.args.feed.now.taken in
+    let status = status_of c.check.result in
+    subst (λ (k : RequestCommand). SourceMeets (work_for k c.args.request.now room) start end out written status)
+    (sym c.in-Judges.is) c.check.ensures.told
