@@ -7,3 +7,4 @@ pub mod CHeaderLaws
 pub mod COpenLines
 pub mod CReads
 pub mod CCalls
+pub mod ShortTables

@@ -4,7 +4,7 @@ ghost use Rattle.icode.specs.Program.{plain_program};
 ghost use Rattle.listing_text.specs.Listing.{array_text, sum_text};
 ghost use Rattle.c_print.specs.CGrammar.{c_grammar};
 ghost use Rattle.c_print.specs.CText.{lane_loop, tile_loops, lane_text, becomes_text, c_op_text, front_text, joined_text, add_text, sub_text, mul_text, c_wording, c_text_of};
-ghost use Rattle.c_print.specs.CTexts.{HasShortTables, is_c_text};
+ghost use Rattle.c_print.specs.CTexts.{is_c_text};
 
 use crate::header::read_c_header;
 use crate::lines::read_c_line;
@@ -333,8 +333,7 @@ impl Language for C {
 /// The C text of a program.
 pub fn print_c(alloc: Global, program: &Program) -> Result<Vec<u8>, NoMemory>
     ensures text { IfOk result (λ text. text.items ≡ c_text_of (plain_program program.now)) }
-    ensures read_back { HasShortTables (plain_program program.now)
-        → IfOk result (λ text. is_c_text text.items (plain_program program.now)) }
+    ensures read_back { IfOk result (λ text. is_c_text text.items (plain_program program.now)) }
 {
     print::<C>(alloc, program)
 }

@@ -22,7 +22,7 @@ use Rattle.icode.proofs.Runs.{counts_of_runs}
 use Rattle.par_machine.proofs.Executed.{AreSmall, counts_small}
 use Rattle.schedules.specs.Schedule.{Plan}
 use Rattle.schedules.specs.Turns.{next_state, state_after, turns_of}
-use Rattle.generate.specs.Good.{IsVector}
+use Rattle.spl_ast.specs.Meaning.{IsVector}
 use Rattle.tree_model.specs.WholePasses.{whole_loads, whole_stores}
 use Rattle.matrix_meaning.specs.Asked.{asked_of}
 use Rattle.spiral_words.specs.declared.Document.TheVariants as document
@@ -105,7 +105,7 @@ sample_is request code m n seed good modulus size =
     ap₂ (λ k l. sample_vector k l seed) (modulus ∙ ap (λ (k : Code). k.modulus) good.is ∙ good.good.header.modulus) (size ∙ ap (λ (k : Code). k.size) good.is ∙ good.good.header.size)
 
 sample_fits : (request : Request) (seed : ℕ) → IsInRange request →
-    IsVector request (sample_vector request.modulus request.size seed)
+    IsVector request.modulus request.size (sample_vector request.modulus request.size seed)
 sample_fits request seed in_range = record {
   size = length-list_below request.size (λ i. state_after (i + 1) seed % request.modulus);
   residues = sample_below request.modulus request.size seed (limits request in_range).modulus;
@@ -160,7 +160,7 @@ sampled request code after plan m n seed vector y state sum counts text good in_
     let turns = turns_of plan code.procs in
     let program = emission request good.tree in
     let here : vector ≡ sample_vector request.modulus request.size seed = v ∙ sample_is request code m n seed good modulus size in
-    let fits : IsVector request vector = subst (IsVector request) (sym here) (sample_fits request seed in_range) in
+    let fits : IsVector request.modulus request.size vector = subst (IsVector request.modulus request.size) (sym here) (sample_fits request seed in_range) in
     let times : y ≡ asked_of request vector = run ∙ ap (λ k. results k vector turns) good.is ∙ good.good.product vector turns fits (good_turns plan request code good in_range none) in
     let of_request : m ≡ request.modulus = modulus ∙ ap (λ (k : Code). k.modulus) good.is ∙ good.good.header.modulus in
     let sum_is = s ∙ ap₂ weighted_sum of_request (times ∙ ap (asked_of request) here) in

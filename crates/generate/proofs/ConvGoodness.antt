@@ -32,7 +32,8 @@ use Rattle.matrix_meaning.specs.Kind.{transform, entry_of}
 use Rattle.operators.specs.Operator.{scale}
 use Rattle.operators.specs.Sum.{list_below, sum_below}
 use Rattle.operators.proofs.Lists.{at-list_below, length-list_below, list_below-same}
-use Rattle.sigma_spl.specs.Good.{IsVector}
+use Rattle.spl_ast.specs.Meaning.{IsVector}
+use Rattle.spl_ast.proofs.Vectors.{list_vector}
 use Rattle.sigma_spl.specs.Merged.{merged_on, PlainMerged}
 use Rattle.generate.specs.ConvLetters.{conv_merged}
 use Rattle.code_gen.specs.PassCode.Contract.{Performs}
@@ -61,7 +62,7 @@ use Rattle.generate.specs.ConvPlanned.{IsConvPlanned}
 use Rattle.matrix_meaning.specs.declared.Kind.{Kind}
 use Rattle.ring_mod.specs.Residue.{product_mod}
 use Rattle.generate.proofs.TreePasses.Merged.{trees_are_merged, trees_mean}
-use Rattle.generate.proofs.Performed.{CountsPasses, alone, performed-counts, among-leftovers, any-turns, header-of, items-of, flat-loads}
+use Rattle.generate.proofs.Performed.{CountsPasses, alone, performed-counts, among-leftovers, any-turns, header-of, flat-loads}
 use Rattle.generate.proofs.Performed.{flat-number, tree-totals}
 
 -- ---- trees of a request for convolutions, which is of one size and no inverse
@@ -120,11 +121,7 @@ module _ (r : Request) (request : IsConvRequest r) (valid : IsValid r) where
 -- ---- joined passes of a tree compute the convolution
 
 scale-vector : (m n : ℕ) (f : ℕ → ℕ) (x : List ℕ) → 0 < m → IsVector m n (scale m n f x)
-scale-vector m n f x some =
-    record {
-      size = length-list_below n (λ i. (f i * slice_index x i) % m);
-      residues = λ i low. subst (λ v. v < m) (sym (at-list_below n (λ i. (f i * slice_index x i) % m) i low)) (mod-lt (f i * slice_index x i) some);
-    }
+scale-vector m n f x some = list_vector m n _ (λ i low. mod-lt (f i * slice_index x i) some)
 
 -- listed factors
 scale-listed : (m n : ℕ) (f : ℕ → ℕ) (x : List ℕ) → scale m n (slice_index (list_below n f)) x ≡ scale m n f x
@@ -310,16 +307,14 @@ module _ (r : Request) (t : Breakdown) (ls : List ℕ) (request : IsConvRequest 
           phases = length-map _ _ ∙ performs.phases;
           apart = performs.apart;
           product = λ x turns vector _.
-              let items = items-of r x vector in
               any-turns (target_of r) (conv_merged r t ds) p performs x turns
-              ∙ performs.results x items
-              ∙ joined-convolve r t ls request valid h principal x items;
+              ∙ performs.results x vector
+              ∙ joined-convolve r t ls request valid h principal x vector;
           again = λ left x turns are vector.
-              let items = items-of r x vector in
               among-leftovers (target_of r) (conv_merged r t ds) p performs left x turns are vector.size
               ∙ any-turns (target_of r) (conv_merged r t ds) p performs x turns
-              ∙ performs.results x items
-              ∙ joined-convolve r t ls request valid h principal x items;
+              ∙ performs.results x vector
+              ∙ joined-convolve r t ls request valid h principal x vector;
           fresh = performs.fresh;
           operations =
               let all = both.operations r.weight (omega (arith, weight)) in

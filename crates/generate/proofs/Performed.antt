@@ -50,11 +50,11 @@ use Rattle.tree_model.specs.Passes.{Pass, loads_in, loads_of, whole_passes}
 use Rattle.tree_model.specs.Whole.{IsTreeOf}
 use Rattle.tree_model.proofs.WholeCosts.{passes_do_the_cost}
 use Rattle.matrix_meaning.specs.Asked.{asked_of}
-use Rattle.generate.specs.Good.{HasHeader, IsGood, IsVector}
+use Rattle.generate.specs.Good.{HasHeader, IsGood}
+use Rattle.spl_ast.specs.Meaning.{IsVector}
 use Rattle.generate.proofs.TreePasses.Merged.{trees_are_merged, trees_mean}
 use Rattle.code_gen.specs.PassCode.Contract as contract
 use Rattle.tree_model.specs.Passes as trees
-use Rattle.sigma_spl.specs.Good as vectors
 
 -- ---- equal shares
 
@@ -338,12 +338,6 @@ module _ (c : Request) (request : IsConvRequest c) where
 
 -- ---- the program of the chosen tree is good and lean
 
--- residues all, and so each
-pub items-of : (r : Request) (x : List ℕ) → IsVector r x → vectors.IsVector r.modulus r.size x
-items-of r x vector =
-    let size = vector.size in
-    record { size = size; residues = λ i low. vector.residues i 0 (omega (arith, low, size)) }
-
 -- a program on the machine of a request is for the request
 pub header-of : (r : Request) (g : PlainMerged) (p : PlainProgram) → Performs (target_of r) g p → HasHeader r p
 header-of r g p performs =
@@ -370,10 +364,9 @@ module _ (r : Request) (t : Breakdown) (p : PlainProgram) (valid : IsValid r) (h
       CountsPasses (target_of r) (all_passes (tree_merged r t).phases) (whole_counts (plain_code p) q)
   share = performed-counts (target_of r) (tree_merged r t) p performs known.ready
 
-  transforms : (x : List ℕ) → IsVector r x → results (plain_code p) x [] ≡ asked_of r x
+  transforms : (x : List ℕ) → IsVector r.modulus r.size x → results (plain_code p) x [] ≡ asked_of r x
   transforms x vector =
-      let items = items-of r x vector in
-      performs.results x items ∙ trees_mean r t valid h x items
+      performs.results x vector ∙ trees_mean r t valid h x vector
 
   pub good : IsGood r (whole_cost r t) p
   good =

@@ -1,7 +1,8 @@
 -- What makes a program one for convolutions with a list.
 use Rattle.std.specs.Prelude.{◌≡◌, ℕ, ◌*◌, ◌^◌, ◌≤◌, List, length, All, ◌<◌}
 use Rattle.matrix_meaning.specs.Convolution.{convolution}
-use Rattle.generate.specs.Good.{HasHeader, IsVector}
+use Rattle.generate.specs.Good.{HasHeader}
+use Rattle.spl_ast.specs.Meaning.{IsVector}
 use Rattle.icode.specs.Actions.{PlainFits, plain_code}
 use Rattle.icode.specs.Fresh.{IsFresh}
 use Rattle.icode.specs.Leftovers.{AreLeftovers, Leftovers, results_among}
@@ -23,9 +24,9 @@ pub record IsConvolver (r : Request) (t : Breakdown) (h : List ℕ) (p : PlainPr
   pub fits : PlainFits p
   pub phases : length (plain_code p).lists ≡ 1
   pub apart : (phase : ℕ) → IsApart (plain_code p) phase
-  pub product : (x turns : List ℕ) → IsVector r x → All (λ q. q < r.procs) turns →
+  pub product : (x turns : List ℕ) → IsVector r.modulus r.size x → All (λ q. q < r.procs) turns →
       results (plain_code p) x turns ≡ convolution r.modulus r.size h x
-  pub again : (left : Leftovers) (x turns : List ℕ) → AreLeftovers (plain_code p) left → IsVector r x →
+  pub again : (left : Leftovers) (x turns : List ℕ) → AreLeftovers (plain_code p) left → IsVector r.modulus r.size x →
       results_among (plain_code p) left x turns ≡ convolution r.modulus r.size h x
   pub fresh : IsFresh (plain_code p)
   pub operations : weighted r.weight (whole_counts (plain_code p) 0) ≡ conv_cost r t

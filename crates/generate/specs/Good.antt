@@ -7,6 +7,7 @@ use Rattle.icode.specs.Machine.{IsApart, results, weighted, whole_counts}
 use Rattle.icode.specs.Plain.{PlainProgram}
 use Rattle.matrix_meaning.specs.Asked.{asked_of}
 use Rattle.matrix_meaning.specs.declared.Request.{Request}
+use Rattle.spl_ast.specs.Meaning.{IsVector}
 
 -- the program is for the request's machine
 pub record HasHeader (r : Request) (p : PlainProgram) : Type 0 where
@@ -16,11 +17,6 @@ pub record HasHeader (r : Request) (p : PlainProgram) : Type 0 where
   pub line : p.line ≡ r.line
   pub lanes : p.lanes ≡ r.lanes
 
--- a list of as many residues as the request's size
-pub record IsVector (r : Request) (x : List ℕ) : Type 0 where
-  pub size : length x ≡ r.size
-  pub residues : All (λ v. v < r.modulus) x
-
 -- Whatever the vector and whatever turns its processors take first, the program leaves the
 -- transform of the vector that the request asks for, whatever is left over too. In no phase does a processor touch a line
 -- that another writes. The operations of all processors together, where a multiplication counts as
@@ -28,9 +24,9 @@ pub record IsVector (r : Request) (x : List ℕ) : Type 0 where
 pub record IsGood (r : Request) (least : ℕ) (p : PlainProgram) : Type 0 where
   pub header : HasHeader r p
   pub fits : PlainFits p
-  pub product : (x turns : List ℕ) → IsVector r x → All (λ q. q < r.procs) turns →
+  pub product : (x turns : List ℕ) → IsVector r.modulus r.size x → All (λ q. q < r.procs) turns →
       results (plain_code p) x turns ≡ asked_of r x
-  pub again : (left : Leftovers) (x turns : List ℕ) → AreLeftovers (plain_code p) left → IsVector r x →
+  pub again : (left : Leftovers) (x turns : List ℕ) → AreLeftovers (plain_code p) left → IsVector r.modulus r.size x →
       results_among (plain_code p) left x turns ≡ asked_of r x
   pub fresh : IsFresh (plain_code p)
   pub apart : (phase : ℕ) → IsApart (plain_code p) phase

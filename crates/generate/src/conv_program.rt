@@ -1,7 +1,7 @@
 // The program of a convolution.
 ghost use Rattle.std.specs.Prelude.{◌≡◌, ◌<◌, Ok, IfOk, All, map, vec_len};
 ghost use Rattle.matrix_meaning.specs.Convolving.{IsConvRequest};
-ghost use Rattle.generate.specs.Good.{IsVector};
+ghost use Rattle.spl_ast.specs.Meaning.{IsVector};
 ghost use Rattle.icode.specs.Program.{plain_program};
 ghost use Rattle.ring_mod.specs.Residue.{product_mod};
 ghost use Rattle.tree_model.specs.Breakdown.{breakdown_of};
@@ -33,7 +33,7 @@ pub fn generate_conv(
 ) -> Result<Program, NoMemory>
     requires request { IsConvRequest request.now }
     requires plan { IsConvPlanned request.now (Ok (breakdown_of plan.now.tree)) }
-    requires list { IsVector request.now h.now }
+    requires list { IsVector request.now.modulus request.now.size h.now }
     ensures convolver { IfOk result (λ p.
         IsConvolver request.now (breakdown_of plan.now.tree) h.now (plain_program p)) }
     ensures letters { IfOk result (λ p.
@@ -53,7 +53,7 @@ pub fn generate_conv(
 fn list_factors(alloc: Global, c: &Ctx, tree: &Tree, h: &[u64]) -> Result<Vec<u64>, NoMemory>
     requires request { IsConvRequest c.now }
     requires tree { IsWholeTree c.now (breakdown_of tree.now) }
-    requires list { IsVector c.now h.now }
+    requires list { IsVector c.now.modulus c.now.size h.now }
     ensures value { IfOk result (λ ds. ds.items ≡ factors_of c.now h.now) }
     ensures size { IfOk result (λ ds. vec_len ds ≡ c.now.size) }
     ensures residues { IfOk result (λ ds. All (λ d. d < c.now.modulus) ds.items) }
@@ -70,9 +70,9 @@ fn list_factors(alloc: Global, c: &Ctx, tree: &Tree, h: &[u64]) -> Result<Vec<u6
 fn transform_by(alloc: Global, c: &Ctx, tree: &Tree, x: &[u64]) -> Result<Vec<u64>, NoMemory>
     requires request { IsConvRequest c.now }
     requires tree { IsWholeTree c.now (breakdown_of tree.now) }
-    requires vector { IsVector c.now x.now }
+    requires vector { IsVector c.now.modulus c.now.size x.now }
     ensures value { IfOk result (λ y. y.items ≡ root_transform c.now x.now) }
-    ensures vector { IfOk result (λ y. IsVector c.now y.items) }
+    ensures vector { IfOk result (λ y. IsVector c.now.modulus c.now.size y.items) }
 {
     let request = c.request();
     let modulus = Modulus::new(request.modulus).unwrap();

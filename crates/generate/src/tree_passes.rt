@@ -2,7 +2,7 @@
 ghost use Rattle.std.specs.Prelude.{◌≡◌, IfOk, List, ℕ};
 ghost use Rattle.matrix_meaning.specs.Asked.{asked_of};
 ghost use Rattle.sigma_lower.specs.Merged.{tree_merged};
-ghost use Rattle.sigma_spl.specs.Good.{IsVector};
+ghost use Rattle.spl_ast.specs.Meaning.{IsVector};
 ghost use Rattle.sigma_spl.specs.Merged.{merged_on};
 ghost use Rattle.sigma_spl.specs.Trees.{IsMergedTree};
 ghost use Rattle.sigma_spl.specs.Views.{plain_merged};

@@ -1,7 +1,7 @@
 -- What merging keeps of terms.
 use Rattle.std.specs.Prelude.{◌≡◌, ℕ, ◌<◌, List}
 use Rattle.sigma_spl.specs.Counts.{CopiesAreFree}
-use Rattle.sigma_spl.specs.Good.{IsVector}
+use Rattle.sigma_spl.specs.Meaning.{IsVector}
 use Rattle.sigma_spl.specs.Merged.{PlainMerged, merged_on}
 use Rattle.sigma_spl.specs.Sigma.{PlainSigma, merged_costs, sigma_costs, sigma_on}
 use Rattle.sigma_spl.specs.Work.{PlainWork}

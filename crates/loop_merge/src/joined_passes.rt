@@ -1,5 +1,5 @@
 // Passes, a diagonal of listed values and other passes, as the passes of one program.
-ghost use Rattle.std.specs.Prelude.{◌≡◌, IfOk};
+ghost use Rattle.std.specs.Prelude.{◌≡◌, IfOk, length};
 ghost use Rattle.loop_merge.specs.JoinedPasses.InOnePhase.{joined};
 ghost use Rattle.loop_merge.specs.JoinedPasses.Laws.{AreInTurn, CountBoth, IsReadyJoined};
 ghost use Rattle.loop_merge.specs.MultipliedPasses.Views.{plain_passes, plain_phases};
@@ -23,6 +23,7 @@ pub fn join(
 ) -> Result<Merged, NoMemory>
     ensures joined { IfOk result (λ all.
         plain_merged all ≡ joined (plain_merged first) diagonal.items (plain_merged second)) }
+    ensures phase { IfOk result (λ all. length (plain_merged all).phases ≡ 1) }
     ensures meaning { IfOk result (λ all.
         AreInTurn (plain_merged first) diagonal.items (plain_merged second) (plain_merged all)) }
     ensures counts { IfOk result (λ all.

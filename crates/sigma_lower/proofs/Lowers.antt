@@ -5,7 +5,7 @@ use Rattle.sigma_lower.proofs.Words.{take, drop, mul_comm, map, slice_index, if�
 use Rattle.sigma_lower.proofs.Words.{nat_tests, length-map, fill_by_all, Mapping, Strided, ThomasIn, ThomasOut, at}
 use Rattle.sigma_lower.proofs.Words.{Kind, Dft, Wht, transform, IsPowerOfTwo, gather, scale, on_blocks, on_columns}
 use Rattle.sigma_lower.proofs.Words.{stride, list_below-same, IsMove, IsGoodTerm, IsVector, term_on, kernel, horner}
-use Rattle.sigma_lower.proofs.Words.{short, vector-below, one_more, halvings, hadamard_term, fourier_term, term_of}
+use Rattle.sigma_lower.proofs.Words.{short, list_vector, one_more, halvings, hadamard_term, fourier_term, term_of}
 use Rattle.sigma_lower.proofs.Words.{wrapped, Formula, Identity, Fourier, Hadamard, Twiddles, Diagonal, Stride}
 use Rattle.sigma_lower.proofs.Words.{Permutation, GoodThomasIn, GoodThomasOut, Product, TensorLeft, TensorRight}
 use Rattle.sigma_lower.proofs.Words.{DirectSum, Pending, size_of, IsShaped, shaped_size, Blocks, Columns, Path}
@@ -29,14 +29,9 @@ use Rattle.sigma_lower.proofs.Parts.{transform-work, nest-lowers, move-lowers, d
 use Rattle.sigma_lower.proofs.Parts.{size-more, more-lowers, under-keeps, Lowers}
 use Rattle.sigma_lower.proofs.TreeTerms.Lowering.{AreCoprime}
 use Rattle.sigma_lower.proofs.TreeTerms.Permuted.{gather-under}
-use Rattle.spl_ast.proofs.Vectors.{apply_vector, residue_at, vector_of}
+use Rattle.spl_ast.proofs.Vectors.{apply_vector, residue_at}
 
 -- ---- vectors
-
-apply-vector : (m : ℕ) (f : Formula) (x : List ℕ) → IsShaped f → IsVector m (size_of f) x →
-    IsVector m (size_of f) (apply m f x)
-apply-vector m f x shaped v =
-    let w = apply_vector m f x shaped (vector_of m (size_of f) x v.size v.residues) in record { size = w.size; residues = λ i below. residue_at m (size_of f) (apply m f x) i w below }
 
 -- ---- permutations
 
@@ -47,7 +42,7 @@ gath-lowers m path n f positive h = record { good = move-wrapped path n f positi
 -- ---- WHT
 
 transform-vector : (m n w : ℕ) (kind : Kind) (y : List ℕ) → 0 < m → IsVector m n (transform kind m n w y)
-transform-vector m n w kind y positive = vector-below m n _ (λ i below. mod-lt _ positive)
+transform-vector m n w kind y positive = list_vector m n _ (λ i below. mod-lt _ positive)
 
 hadamard-one : (m : ℕ) (y : List ℕ) → IsVector m 1 y → y ≡ transform Wht m 1 0 y
 unfolding lib.Count.ones
@@ -56,7 +51,7 @@ hadamard-one m y v =
     let first : i ≡ 0 = omega arith in
     let value : 0 + 1 * slice_index y 0 ≡ slice_index y 0 = omega arith in
     subst (λ j. (0 + entry_of Wht m 1 0 j 0 * slice_index y 0) % m ≡ slice_index y j) (sym first)
-    (ap (λ s. s % m) value ∙ mod-eq_of_lt (v.residues 0 (omega arith)))))
+    (ap (λ s. s % m) value ∙ mod-eq_of_lt (residue_at m 1 y 0 v (omega arith)))))
 
 hadamard-lowers : (m : ℕ) (path : Path) (k : ℕ) → 0 < m → Lowers m (size_under path (2 ^ k)) (hadamard_term path k)
     (under path (2 ^ k) (transform Wht m (2 ^ k) 0))
@@ -186,13 +181,13 @@ lowers m path (Product a b) positive some shaped =
     let size : size_of a ≡ size_of b = shaped.2 in
     let second : Lowers m (size_under path (size_of a)) (term_of m path b) (under path (size_of a) (apply m b)) =
     subst (λ z. Lowers m (size_under path z) (term_of m path b) (under path z (apply m b))) (sym size) (lowers m path b positive (subst (λ z. 0 < size_under path z) size some) shaped.1) in
-    product-lowers m path (size_of a) (term_of m path a) (term_of m path b) (apply m a) (apply m b) (λ y w. subst (λ z. IsVector m z (apply m b y)) (sym size) (apply-vector m b y shaped.1 (subst (λ z. IsVector m z y) size w)))
+    product-lowers m path (size_of a) (term_of m path a) (term_of m path b) (apply m a) (apply m b) (λ y w. subst (λ z. IsVector m z (apply m b y)) (sym size) (apply_vector m b y shaped.1 (subst (λ z. IsVector m z y) size w)))
     (lowers m path a positive some shaped.0) second
 lowers m path (TensorLeft a k) positive some shaped =
-    more-lowers m path (Columns k) (size_of a) (term_of m (one_more path (Columns k)) a) (apply m a) (λ y w. apply-vector m a y shaped.0 w)
+    more-lowers m path (Columns k) (size_of a) (term_of m (one_more path (Columns k)) a) (apply m a) (λ y w. apply_vector m a y shaped.0 w)
     (lowers m (one_more path (Columns k)) a positive (subst (λ z. 0 < z) (sym (size-more path (Columns k) (size_of a))) some) shaped.0)
 lowers m path (TensorRight k a) positive some shaped =
-    more-lowers m path (Blocks k) (size_of a) (term_of m (one_more path (Blocks k)) a) (apply m a) (λ y w. apply-vector m a y shaped.1 w)
+    more-lowers m path (Blocks k) (size_of a) (term_of m (one_more path (Blocks k)) a) (apply m a) (λ y w. apply_vector m a y shaped.1 w)
     (lowers m (one_more path (Blocks k)) a positive (subst (λ z. 0 < z) (sym (size-more path (Blocks k) (size_of a))) some) shaped.1)
 lowers m path (DirectSum a b) positive some shaped =
     let k = size_of a in
@@ -206,6 +201,6 @@ lowers m path (DirectSum a b) positive some shaped =
           let front_is : IsVector m k (take k y) = subst (IsVector m k) (front-take k l y w.size) (front-vector m k l y w) in
           let back_is : IsVector m l (drop k y) = subst (IsVector m l) (back-drop k l y w.size) (back-vector m k l y w) in
           both-equal k l (term_on m k (term_of m [] a)) (term_on m l (term_of m [] b)) (apply m a) (apply m b) y (first.on (front k y) (front-vector m k l y w)) (second.on (back k l y) (back-vector m k l y w))
-          ∙ sum-on m k l (apply m a) (apply m b) y w (apply-vector m a (take k y) shaped.0 front_is).size (apply-vector m b (drop k y) shaped.1 back_is).size) v;
+          ∙ sum-on m k l (apply m a) (apply m b) y w (apply_vector m a (take k y) shaped.0 front_is).size (apply_vector m b (drop k y) shaped.1 back_is).size) v;
     }
 lowers m path (Pending a) positive some shaped = lowers m path a positive some shaped

@@ -4,7 +4,8 @@ use Rattle.sigma_lower.proofs.Words.{ap₂, ◌∙◌, List, [], ◌∷◌, ◌+
 use Rattle.sigma_lower.proofs.Words.{slice_index, fill_by_all, Kind, transform, gather, scale, stride, column}
 use Rattle.sigma_lower.proofs.Words.{on_blocks, on_columns, at-list_below, list_below-same, place_below}
 use Rattle.sigma_lower.proofs.Words.{factor_positive, CanNest, IsGoodTerm, IsVector, factor_count, factor_at, product}
-use Rattle.sigma_lower.proofs.Words.{term_on, PlainWork, tile, work_size, work_on, vector-below, one_more, Tensor}
+use Rattle.sigma_lower.proofs.Words.{term_on, PlainWork, tile, work_size, work_on, one_more, Tensor}
+use Rattle.sigma_lower.proofs.Words.{block_vector, column_vector, list_vector, residue_at}
 use Rattle.sigma_lower.proofs.Words.{Blocks, Columns, Path, count_of, grown, size_under, under, place, size_under-push}
 use Rattle.sigma_lower.proofs.Words.{mod-eq_of_lt, div-one, mod-one, entry_of, Operator, block, stride_below}
 use Rattle.sigma_lower.proofs.Words.{list_below, length-list_below, PlainFactors, under-vector, vector-fill}
@@ -80,7 +81,7 @@ move-lowers m path ks h =
           ap (slice_index (under path d a x)) (sym there) ∙ at-under path d a x vs k reads range within ∙ at-list_below d _ k within ∙ at-list_below d _ (slice_index ks k) (h k within) in
           ap (λ s. (s + 0) % m) (at-list_below d _ k within ∙ at-list_below d _ k within)
           ∙ ap (λ s. s % m) (omega arith)
-          ∙ mod-eq_of_lt (v.residues (place path d vs (slice_index ks k)) (place-below path d vs (slice_index ks k) range (h k within)))
+          ∙ mod-eq_of_lt (residue_at m _ x (place path d vs (slice_index ks k)) v (place-below path d vs (slice_index ks k) range (h k within)))
           ∙ sym same));
     }
 
@@ -99,7 +100,7 @@ tile-under m path v x h =
     let same : slice_index (under path d a x) p ≡ slice_index (a (local path d vs x)) k = ap (slice_index (under path d a x)) (sym there) ∙ at-under path d a x vs k reads range within in
     ap (λ s. (s + 0) % m) item
     ∙ ap (λ s. s % m) (omega arith)
-    ∙ mod-eq_of_lt (h.residues (place path d vs q) (place-below path d vs q range (inside k within)))
+    ∙ mod-eq_of_lt (residue_at m _ x (place path d vs q) h (place-below path d vs q range (inside k within)))
     ∙ sym item
     ∙ sym same))
 
@@ -123,16 +124,18 @@ pub under-keeps : (m : ℕ) (path : Path) (n : ℕ) (a : Operator) (x : List ℕ
 under-keeps m [] n a x h v = h x v
 under-keeps m (Blocks c ∷ path) n a x h v =
     let size = size_under path n in
-    vector-below m (c * size) _ (λ p below.
+    list_vector m (c * size) _ (λ p below.
     let positive : 0 < size = factor_positive c size p below in
     let copy : p / size < c = (div-lt_iff_lt-mul positive).1 below in
-    (under-keeps m path n a (block size (p / size) x) h (vector-below m size _ (λ j within. v.residues (p / size * size + j) (place_below (p / size) j c size copy within)))).residues (p % size) (mod-lt p positive))
+    let inner = block_vector m c size (p / size) x copy v in
+    residue_at m size _ (p % size) (under-keeps m path n a (block size (p / size) x) h inner) (mod-lt p positive))
 under-keeps m (Columns c ∷ path) n a x h v =
     let size = size_under path n in
-    vector-below m (size * c) _ (λ p below.
+    list_vector m (size * c) _ (λ p below.
     let positive : 0 < c = factor_positive size c p below in
     let row : p / c < size = (div-lt_iff_lt-mul positive).1 below in
-    (under-keeps m path n a (column size c (p % c) x) h (vector-below m size _ (λ i within. v.residues (i * c + p % c) (place_below i (p % c) size c within (mod-lt p positive))))).residues (p / c) row)
+    let inner = column_vector m size c (p % c) x (mod-lt p positive) v in
+    residue_at m size _ (p / c) (under-keeps m path n a (column size c (p % c) x) h inner) row)
 
 -- a product under a path, for operators on vectors
 pub under-times : (m : ℕ) (path : Path) (n : ℕ) (a b : Operator) (x : List ℕ) →

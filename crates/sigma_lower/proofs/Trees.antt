@@ -3,7 +3,7 @@ use Rattle.sigma_lower.proofs.Words.{◌≡◌, ℕ, ◌*◌, ◌<◌, ◌≤◌
 use Rattle.sigma_lower.proofs.Words.{ThomasOut, ThomasBack, at, Dft, Target, transform, IsMachine, IsPermutationBelow}
 use Rattle.sigma_lower.proofs.Words.{gather, on_columns, on_blocks, column, CanNest, IsMove, IsVector, unit_below}
 use Rattle.sigma_lower.proofs.Words.{back_of, PlainWork, kernel, rows, horner, tile, copy, work_size, work_on, trees_of}
-use Rattle.sigma_lower.proofs.Words.{moves-no-words, vector-below, trees_size, core_term, AreCoprime, IsGoodPiece}
+use Rattle.sigma_lower.proofs.Words.{moves-no-words, list_vector, trees_size, vector_of, core_term, AreCoprime, IsGoodPiece}
 use Rattle.sigma_lower.proofs.Words.{IsGoodCore, IsGood, wrapped, core_size, step_on, PlainCore, piece, turns}
 use Rattle.sigma_lower.proofs.Words.{thomas_in, thomas_out, PlainStep, Path, copies_of, size_under, under}
 use Rattle.sigma_lower.proofs.Words.{size_under-copies, mod-lt, div-lt_iff_lt-mul, ◌/◌, ◌%◌, slice_index, at-list_below}
@@ -55,7 +55,8 @@ piece-nests v path _ h = tt
 piece-vector : (m : ℕ) (w : PlainWork) (y : List ℕ) → 0 < m → IsGoodPiece w → IsVector m (work_size w) (work_on m w y)
 piece-vector m w y positive h =
     let work = piece-work m w h in
-    record { size = work.size y; residues = λ i below. subst (λ v. v < m) (work.residue y i below) (mod-lt _ positive) }
+    vector_of m (work_size w) (work_on m w y) (work.size y)
+    (λ i below. subst (λ v. v < m) (work.residue y i below) (mod-lt _ positive))
 
 -- ---- back from a Good-Thomas step
 
@@ -102,7 +103,7 @@ core-keeps : (c : Target) (k : PlainCore) (y : List ℕ) → 0 < c.modulus → I
     IsVector c.modulus (core_size k) y → IsVector c.modulus (core_size k) (core_on c.modulus k y)
 core-keeps c (piece w) y positive h low v = piece-vector c.modulus w y positive h
 core-keeps c (turns r s) y positive h low v = gather-vector c.modulus (r * s) _ y (strided-move r s (omega (arith, h.0)) (omega (arith, h.1)) low).permutes.there_below v
-core-keeps c (steps.twiddles r s w) y positive h low v = vector-below c.modulus (r * s) _ (λ i below. mod-lt _ positive)
+core-keeps c (steps.twiddles r s w) y positive h low v = list_vector c.modulus (r * s) _ (λ i below. mod-lt _ positive)
 core-keeps c (thomas_in r s) y positive h low v = gather-vector c.modulus (r * s) _ y (in-move r s h).permutes.there_below v
 core-keeps c (thomas_out r s) y positive h low v = gather-vector c.modulus (r * s) _ y (out-move r s h).permutes.there_below v
 

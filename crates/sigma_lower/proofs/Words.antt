@@ -96,10 +96,12 @@ pub use Rattle.sigma_spl.proofs.Keeps.{merge_keeps, right_positive, scatter-same
 pub use Rattle.sigma_spl.proofs.Natural.{ranged, sound-place_sum}
 pub use Rattle.sigma_spl.proofs.Nests.{moves-no-words}
 pub use Rattle.sigma_spl.proofs.Several.{several-push}
-pub use Rattle.sigma_spl.proofs.Walk.{chosen, vector-below}
+pub use Rattle.sigma_spl.proofs.Walk.{chosen}
+pub use Rattle.spl_ast.proofs.Vectors.{apply_vector, block_vector, column_vector, list_vector, residue_at, vector_of}
 pub use Rattle.sigma_spl.specs.Copies.{loops_of}
 pub use Rattle.sigma_spl.specs.Counts.{copies_in, multiplier_cost, term_cost}
-pub use Rattle.sigma_spl.specs.Good.{AreBlocks, CanNest, IsGoodTerm, IsMove, IsVector, MovesVectors, NamesItems}
+pub use Rattle.sigma_spl.specs.Good.{AreBlocks, CanNest, IsGoodTerm, IsMove, MovesVectors, NamesItems}
+pub use Rattle.spl_ast.specs.Meaning.{IsVector}
 pub use Rattle.sigma_spl.specs.Limits.{AreSeveral, HasSeveral}
 pub use Rattle.sigma_spl.specs.Lists.{LastIs, on_last}
 pub use Rattle.sigma_spl.specs.Loops.{AreFormed, AreLimitedLoops, CanScale, HasLoop, IsGoodLoop, IsLimitedLoop}

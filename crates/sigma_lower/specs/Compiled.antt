@@ -1,7 +1,8 @@
 -- The passes of a formula.
 use Rattle.std.specs.Prelude.{◌≡◌, ℕ, ◌<◌, List, []}
 use Rattle.sigma_spl.specs.Counts.{passes_cost}
-use Rattle.sigma_spl.specs.Good.{AreGoodPasses, IsVector}
+use Rattle.sigma_spl.specs.Good.{AreGoodPasses}
+use Rattle.spl_ast.specs.Meaning.{IsVector}
 use Rattle.sigma_spl.specs.Limits.{AreWithin}
 use Rattle.sigma_spl.specs.Merge.{passes_of}
 use Rattle.sigma_spl.specs.Nest.{passes_on}

@@ -4,7 +4,7 @@ use Rattle.operators.specs.declared.target.Target.{Target}
 use Rattle.sigma_lower.specs.Machine.{IsMachine}
 use Rattle.matrix_meaning.specs.declared.Request.{Request}
 use Rattle.sigma_spl.specs.Counts.{term_cost}
-use Rattle.sigma_spl.specs.Good.{IsVector}
+use Rattle.spl_ast.specs.Meaning.{IsVector}
 use Rattle.sigma_spl.specs.Loops.{loops_in, HasLoop}
 use Rattle.sigma_spl.specs.Merged.{PlainMerged}
 use Rattle.sigma_spl.specs.Nest.{repeated}

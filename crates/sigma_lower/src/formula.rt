@@ -8,7 +8,7 @@ ghost use Rattle.index_fn.specs.Index.{mapping_of};
 ghost use Rattle.matrix_meaning.specs.declared.Kind.TheVariants.{Wht};
 ghost use Rattle.matrix_meaning.specs.Kind.{IsPowerOfTwo};
 ghost use Rattle.sigma_spl.specs.Formulas.{IsFormulaSigma};
-ghost use Rattle.sigma_spl.specs.Good.{IsVector};
+ghost use Rattle.spl_ast.specs.Meaning.{IsVector};
 ghost use Rattle.sigma_spl.specs.Nest.{twiddles, values};
 ghost use Rattle.sigma_spl.specs.Sigma.{IsGoodSigma, sigma_cost, sigma_on};
 ghost use Rattle.sigma_spl.specs.Term.{gath, diag, nest, move, product, beside};

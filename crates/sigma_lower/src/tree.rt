@@ -4,7 +4,7 @@ ghost use Rattle.sigma_lower.specs.Merged.{closed_phases, closing_term, phase_co
 ghost use Rattle.sigma_lower.specs.Room.{IsRoomy, IsRoomyCore};
 ghost use Rattle.sigma_lower.specs.Shared.{embed, factors_before, phase_term};
 ghost use Rattle.index_fn.specs.Index.{mapping_of};
-ghost use Rattle.sigma_spl.specs.Good.{IsVector};
+ghost use Rattle.spl_ast.specs.Meaning.{IsVector};
 ghost use Rattle.sigma_spl.specs.Room.{HasRoom};
 ghost use Rattle.sigma_spl.specs.Sigma.{IsGoodSigma, sigma_on};
 ghost use Rattle.sigma_spl.specs.Term.{gath, scat};

@@ -15,7 +15,9 @@ use Rattle.operators.proofs.Lists.{at-list_below, list_below-same, length-list_b
 use Rattle.operators.proofs.Scatters.{sum_below-only, miss}
 use Rattle.perm_algebra.specs.Affine.{constant}
 use Rattle.sigma_spl.specs.Copies.{both}
-use Rattle.sigma_spl.specs.Good.{IsGoodPass, AreGoodPasses, IsFormed, IsGoodTerm, IsVector, MergeKeeps}
+use Rattle.sigma_spl.specs.Good.{IsGoodPass, AreGoodPasses, IsFormed, IsGoodTerm, MergeKeeps}
+use Rattle.spl_ast.specs.Meaning.{IsVector}
+use Rattle.spl_ast.proofs.Vectors.{block_vector, column_vector, list_vector, residue_at}
 use Rattle.sigma_spl.specs.Merge.{Room, less, Merging, nothing, new_nest, items_in, copying, side, sides, with_passes}
 use Rattle.sigma_spl.specs.Merge.{back_of, from_end, ended, merged, if_any}
 use Rattle.sigma_spl.specs.Nest.{factor_count, PlainNest, nests_on, passes_on}
@@ -26,7 +28,7 @@ use Rattle.sigma_spl.proofs.Natural.{nest-natural, natural-good, copying-same, c
 use Rattle.sigma_spl.proofs.Moved.{moved-on, moved-good}
 use Rattle.sigma_spl.proofs.Sides.{side-on, side-good}
 use Rattle.sigma_spl.proofs.Walk.{waiting_on, gathers-end, moves-end, Stands, merging_on, Reaches, merging-vector, Copy}
-use Rattle.sigma_spl.proofs.Walk.{pass-reaches, diagonal-reaches, scatter-reaches, ended-are, vector-below}
+use Rattle.sigma_spl.proofs.Walk.{pass-reaches, diagonal-reaches, scatter-reaches, ended-are}
 use Rattle.operators.specs.declared.paths.Tensor.TheVariants.{Blocks, Columns}
 use Rattle.operators.specs.Paths.Tensors.{Path, size_under, under}
 use Rattle.operators.proofs.PathLemmas.Under.{under-product}
@@ -37,12 +39,6 @@ pub vector-fill : (m n : ℕ) (x : List ℕ) (f : ℕ → ℕ) → IsVector m n 
     list_below n f ≡ x
 vector-fill m n x f v h = list_below-same n f (slice_index x) h ∙ sym (fill_by_all (slice_index x) x n 0 v.size (λ k below. refl))
 
-block-vector : (m c n : ℕ) (v : ℕ) (x : List ℕ) → IsVector m (c * n) x → v < c → IsVector m n (block n v x)
-block-vector m c n v x h below = vector-below m n _ (λ j within. h.residues (v * n + j) (place_below v j c n below within))
-
-column-vector : (m n c : ℕ) (v : ℕ) (x : List ℕ) → IsVector m (n * c) x → v < c → IsVector m n (column n c v x)
-column-vector m n c v x h below = vector-below m n _ (λ i within. h.residues (i * c + v) (place_below i v n c within below))
-
 pub under-vector : (m : ℕ) (path : Path) (n : ℕ) (a b : Operator) (x : List ℕ) →
     ((y : List ℕ) → IsVector m n y → a y ≡ b y) → IsVector m (size_under path n) x → under path n a x ≡ under path n b x
 under-vector m [] n a b x h v = h x v
@@ -50,11 +46,11 @@ under-vector m (Blocks c ∷ path) n a b x h v =
     list_below-same (c * size_under path n) _ _ (λ p below.
     let positive : 0 < size_under path n = factor_positive c (size_under path n) p below in
     ap (λ y. slice_index y (p % size_under path n))
-    (under-vector m path n a b (block (size_under path n) (p / size_under path n) x) h (block-vector m c (size_under path n) (p / size_under path n) x v ((div-lt_iff_lt-mul positive).1 below))))
+    (under-vector m path n a b (block (size_under path n) (p / size_under path n) x) h (block_vector m c (size_under path n) (p / size_under path n) x ((div-lt_iff_lt-mul positive).1 below) v)))
 under-vector m (Columns c ∷ path) n a b x h v =
     list_below-same (size_under path n * c) _ _ (λ p below.
     let positive : 0 < c = factor_positive (size_under path n) c p below in
-    ap (λ y. slice_index y (p / c)) (under-vector m path n a b (column (size_under path n) c (p % c) x) h (column-vector m (size_under path n) c (p % c) x v (mod-lt p positive))))
+    ap (λ y. slice_index y (p / c)) (under-vector m path n a b (column (size_under path n) c (p % c) x) h (column_vector m (size_under path n) c (p % c) x (mod-lt p positive) v)))
 
 pub under-none : (m : ℕ) (path : Path) (n : ℕ) (x : List ℕ) → IsVector m (size_under path n) x →
     under path n (λ y. y) x ≡ x
@@ -63,7 +59,7 @@ under-none m (Blocks c ∷ path) n x v =
     vector-fill m (c * size_under path n) x _ v (λ p below.
     let size = size_under path n in
     let positive : 0 < size = factor_positive c size p below in
-    ap (λ y. slice_index y (p % size)) (under-none m path n (block size (p / size) x) (block-vector m c size (p / size) x v ((div-lt_iff_lt-mul positive).1 below)))
+    ap (λ y. slice_index y (p % size)) (under-none m path n (block size (p / size) x) (block_vector m c size (p / size) x ((div-lt_iff_lt-mul positive).1 below) v))
     ∙ at-list_below size _ (p % size) (mod-lt p positive)
     ∙ ap (slice_index x) (div-add-mod' p size))
 under-none m (Columns c ∷ path) n x v =
@@ -71,7 +67,7 @@ under-none m (Columns c ∷ path) n x v =
     let size = size_under path n in
     let positive : 0 < c = factor_positive size c p below in
     let row : p / c < size = (div-lt_iff_lt-mul positive).1 below in
-    ap (λ y. slice_index y (p / c)) (under-none m path n (column size c (p % c) x) (column-vector m size c (p % c) x v (mod-lt p positive)))
+    ap (λ y. slice_index y (p / c)) (under-none m path n (column size c (p % c) x) (column_vector m size c (p % c) x (mod-lt p positive) v))
     ∙ at-list_below size _ (p / c) row
     ∙ ap (slice_index x) (div-add-mod' p c))
 
@@ -83,10 +79,10 @@ abbrev pub back : ℕ → ℕ → List ℕ → List ℕ
 back k l x = list_below l (λ j. slice_index x (k + j))
 
 pub front-vector : (m k l : ℕ) (x : List ℕ) → IsVector m (k + l) x → IsVector m k (front k x)
-front-vector m k l x v = vector-below m k _ (λ i below. v.residues i (omega arith))
+front-vector m k l x v = list_vector m k _ (λ i below. residue_at m (k + l) x i v (omega arith))
 
 pub back-vector : (m k l : ℕ) (x : List ℕ) → IsVector m (k + l) x → IsVector m l (back k l x)
-back-vector m k l x v = vector-below m l _ (λ i below. v.residues (k + i) (omega arith))
+back-vector m k l x v = list_vector m l _ (λ i below. residue_at m (k + l) x (k + i) v (omega arith))
 
 pub both-equal : (k l : ℕ) (a b c d : Operator) (x : List ℕ) → a (front k x) ≡ c (front k x) →
     b (back k l x) ≡ d (back k l x) → both k l a b x ≡ both k l c d x
@@ -214,7 +210,7 @@ scatter-same m n f x p v =
     let whole : sum_below n (λ j. if at f j == w then slice_index (list_below n (slice_index x)) j else 0) ≡ slice_index x k =
     sum_below-only n k _ within (λ j inside other. miss (at f j) w _ (λ e. other (sym (p.there-back j inside) ∙ ap (at (back_of f)) e)))
     ∙ taken (at f k) w _ (p.back-there w below) ∙ at-list_below n _ k within in
-    sym (ap (λ s. (s + 0) % m) whole ∙ ap (λ s. s % m) (omega arith) ∙ mod-eq_of_lt (v.residues k within))) where
+    sym (ap (λ s. (s + 0) % m) whole ∙ ap (λ s. s % m) (omega arith) ∙ mod-eq_of_lt (residue_at m n x k v within))) where
       taken : (a b x : ℕ) → a ≡ b → (if a == b then x else 0) ≡ x
       taken a b x e = grind (arith, nat_tests)
 

@@ -8,7 +8,9 @@ use Rattle.operators.specs.Sum.{list_below}
 use Rattle.operators.proofs.Lists.{at-list_below, list_below-same, length-list_below}
 use Rattle.perm_algebra.specs.Affine.{constant, value}
 use Rattle.sigma_spl.specs.Copies.{loops_of, pass_on}
-use Rattle.sigma_spl.specs.Good.{AreBelow, IsGoodPass, IsVector}
+use Rattle.sigma_spl.specs.Good.{AreBelow, IsGoodPass}
+use Rattle.spl_ast.specs.Meaning.{IsVector}
+use Rattle.spl_ast.proofs.Vectors.{residue_at}
 use Rattle.sigma_spl.specs.Merge.{new_nest, place_sum}
 use Rattle.sigma_spl.specs.Nest.{sum_value, nests_on}
 use Rattle.sigma_spl.specs.Term.{moving}
@@ -106,4 +108,4 @@ table-on m n f x h v =
     let same : slice_index ks k ≡ at f w = at-list_below n (at f) k (omega (arith, size, within)) ∙ ap (at f) there in
     ap (λ s. (s + 0) % m) (at-list_below d (slice_index (list_below d (λ j. slice_index x (slice_index ks j)))) k within ∙ at-list_below d (λ j. slice_index x (slice_index ks j)) k within ∙ ap (slice_index x) same)
     ∙ ap (λ s. s % m) (omega arith)
-    ∙ mod-eq_of_lt (v.residues (at f w) (h w below))))
+    ∙ mod-eq_of_lt (residue_at m n x (at f w) v (h w below))))

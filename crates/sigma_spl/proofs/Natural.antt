@@ -14,7 +14,9 @@ use Rattle.perm_algebra.specs.Affine.{Sum, constant, variable, remainder, value,
 use Rattle.perm_algebra.proofs.AffineLaws.{value-scaled, value-added}
 use Rattle.perm_algebra.proofs.Kept.{sound-scaled, sound-added}
 use Rattle.sigma_spl.specs.Copies.{loops_of, pass_on}
-use Rattle.sigma_spl.specs.Good.{AreSound, NamesItems, HasLanes, AreWhole, AreBlocks, CanNest, IsGoodPass, IsVector}
+use Rattle.sigma_spl.specs.Good.{AreSound, NamesItems, HasLanes, AreWhole, AreBlocks, CanNest, IsGoodPass}
+use Rattle.spl_ast.specs.Meaning.{IsVector}
+use Rattle.spl_ast.proofs.Vectors.{residue_at}
 use Rattle.sigma_spl.specs.Merge.{place_sum, items_in, items_out, new_nest, one_loop, copying}
 use Rattle.sigma_spl.specs.Nest.{sum_value, load_place, store_place, nests_on}
 use Rattle.sigma_spl.specs.Term.{natural}
@@ -347,7 +349,7 @@ copies-same m n path d x e v =
     at-natural path d w _ (λ s. (s + 0) % m ≡ slice_index x w) (subst (λ z. w < z) (sym e) below) (λ vs k range within there.
     ap (λ s. (s + 0) % m) (at-list_below d _ k within ∙ at-list_below d _ k within ∙ ap (slice_index x) there)
     ∙ ap (λ s. s % m) (omega arith)
-    ∙ mod-eq_of_lt (v.residues w below)))
+    ∙ mod-eq_of_lt (residue_at m n x w v below)))
 
 pub size-one_loop : (n : ℕ) → size_under (one_loop n) 1 ≡ n
 size-one_loop n =

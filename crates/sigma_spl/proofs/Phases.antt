@@ -3,7 +3,8 @@ use Rattle.std.proofs.Common.{◌≡◌, ℕ, ◌+◌, ◌^◌, ◌<◌, ◌≤�
 use Rattle.std.specs.Prelude.{map, reverse}
 use Rattle.std.proofs.lemmas.List.{reverse-append}
 use Rattle.sigma_spl.specs.Counts.{CopiesAreFree, pass_cost, passes_cost, term_cost}
-use Rattle.sigma_spl.specs.Good.{AreGoodPasses, IsVector}
+use Rattle.sigma_spl.specs.Good.{AreGoodPasses}
+use Rattle.spl_ast.specs.Meaning.{IsVector}
 use Rattle.sigma_spl.specs.Limits.{AreWithin}
 use Rattle.sigma_spl.specs.Merge.{most, passes_of}
 use Rattle.sigma_spl.specs.Merged.{PlainMerged, phase_on, phases_on}

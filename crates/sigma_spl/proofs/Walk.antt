@@ -9,7 +9,8 @@ use Rattle.operators.specs.Sum.{list_below}
 use Rattle.operators.specs.Operator.{Operator, gather, scale}
 use Rattle.operators.proofs.Lists.{at-list_below, length-list_below, list_below-same}
 use Rattle.sigma_spl.specs.Good.{MovesVectors, HasLanes, AreGoodNests, IsGoodPass, AreGoodPasses, IsFormed, IsMove}
-use Rattle.sigma_spl.specs.Good.{IsVector}
+use Rattle.spl_ast.specs.Meaning.{IsVector}
+pub use Rattle.spl_ast.proofs.Vectors.{list_vector, residue_at}
 use Rattle.sigma_spl.specs.Merge.{Room, most, unbounded, Merging, Taking, can_gather, can_scatter, gathered, scattered}
 use Rattle.sigma_spl.specs.Merge.{multiplied, copying, take_gathers, copy_by, copies_before, settled, with_pass}
 use Rattle.sigma_spl.specs.Merge.{backs_of, back_of, factor_places, is_free, can_take, is_tile, suits, with_copy}
@@ -42,15 +43,8 @@ and-right false b h = absurd (no h) where
 
 -- ---- vectors
 
-pub vector-below : (m n : ℕ) (f : ℕ → ℕ) → ((i : ℕ) → i < n → f i < m) → IsVector m n (list_below n f)
-vector-below m n f h =
-    record {
-      size = length-list_below n f;
-      residues = λ i below. subst (λ v. v < m) (sym (at-list_below n f i below)) (h i below);
-    }
-
 pub nests-vector : (m n : ℕ) (zs : List PlainNest) (x : List ℕ) → 0 < m → IsVector m n (nests_on m n zs x)
-nests-vector m n zs x positive = vector-below m n _ (λ i below. mod-lt _ positive)
+nests-vector m n zs x positive = list_vector m n _ (λ i below. mod-lt _ positive)
 
 pub passes-vector : (m n : ℕ) (ps : List (List PlainNest)) (x : List ℕ) → 0 < m → IsVector m n x →
     IsVector m n (passes_on m n ps x)
@@ -59,7 +53,7 @@ passes-vector m n (zs ∷ ps) x positive v = nests-vector m n zs (passes_on m n 
 
 pub gather-vector : (m n : ℕ) (f : ℕ → ℕ) (x : List ℕ) → ((i : ℕ) → i < n → f i < n) → IsVector m n x →
     IsVector m n (gather n f x)
-gather-vector m n f x stay v = vector-below m n _ (λ i below. v.residues (f i) (stay i below))
+gather-vector m n f x stay v = list_vector m n _ (λ i below. residue_at m n x (f i) v (stay i below))
 
 -- ---- gathers that wait
 

@@ -1,5 +1,5 @@
 -- Passes that code can be made of, and terms that can be merged.
-use Rattle.std.specs.Prelude.{◌≡◌, ℕ, ◌+◌, ◌%◌, ◌<◌, ◌≤◌, List, [], ◌∷◌, map, length, slice_index}
+use Rattle.std.specs.Prelude.{◌≡◌, ℕ, ◌+◌, ◌%◌, ◌<◌, ◌≤◌, List, [], ◌∷◌, map, length}
 use Rattle.index_fn.specs.Mapping.{Mapping, at, IsWellFormed}
 use Rattle.operators.specs.Loop.{IsPermutationBelow}
 use Rattle.perm_algebra.specs.Affine.{Sum, IsSound, HasNoList}
@@ -9,6 +9,7 @@ use Rattle.sigma_spl.specs.Nest.{PlainNest, sum_value, copies_of, passes_on, fac
 use Rattle.sigma_spl.specs.Term.{PlainTerm, same, gath, scat, diag, nest, move, product, beside, term_on}
 use Rattle.sigma_spl.specs.Work.{PlainWork, kernel, rows, horner, tile, copy, work_size}
 use Rattle.operators.specs.declared.paths.Tensor.TheVariants.{Blocks, Columns}
+use Rattle.spl_ast.specs.Meaning.{IsVector}
 use Rattle.operators.specs.Paths.Tensors.{Path, size_under, AreInRange}
 
 -- ---- passes
@@ -110,13 +111,6 @@ IsGoodTerm lanes n (move path ks) = AreBelow (length ks) ks × (size_under path 
 IsGoodTerm lanes n (product a b) = IsGoodTerm lanes n a × IsGoodTerm lanes n b
 IsGoodTerm lanes n (beside path k a l b) =
     (0 < k) × (0 < l) × (size_under path (k + l) ≡ n) × IsGoodTerm 0 k a × IsGoodTerm 0 l b
-
--- ---- vectors
-
--- n residues modulo m
-pub record IsVector (m n : ℕ) (x : List ℕ) : Type 0 where
-  pub size : length x ≡ n
-  pub residues : (i : ℕ) → i < n → slice_index x i < m
 
 -- The passes of a term are good, and do what it does
 pub record Merges (lanes : ℕ) (m n : ℕ) (room : Room) (t : PlainTerm) : Type 0 where

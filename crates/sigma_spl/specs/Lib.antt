@@ -22,3 +22,4 @@ pub mod Trees
 pub mod PlainPasses
 pub mod Formulas
 pub use Rattle.spl_ast.specs.Formula
+pub use Rattle.spl_ast.specs.Meaning

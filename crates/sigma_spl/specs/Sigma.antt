@@ -2,7 +2,8 @@
 use Rattle.std.specs.Prelude.{◌≡◌, ℕ, ◌+◌, ◌^◌, ◌<◌, ◌≤◌, List, [], ◌∷◌, map, reverse}
 use Rattle.operators.specs.Operator.{Operator}
 use Rattle.sigma_spl.specs.Counts.{CopiesAreFree, passes_cost, term_cost}
-use Rattle.sigma_spl.specs.Good.{AreGoodPasses, IsGoodTerm, IsVector}
+use Rattle.sigma_spl.specs.Good.{AreGoodPasses, IsGoodTerm}
+use Rattle.spl_ast.specs.Meaning.{IsVector}
 use Rattle.sigma_spl.specs.Limits.{AreWithin, HasSeveral}
 use Rattle.sigma_spl.specs.Merge.{passes_of}
 use Rattle.sigma_spl.specs.Merged.{PlainMerged, merged_on}

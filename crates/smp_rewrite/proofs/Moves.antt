@@ -1,8 +1,10 @@
 -- Permutations whose width is a number of lines move whole lines.
 use Rattle.std.proofs.Common.{◌≡◌, ℕ, zero, suc, ◌+◌, ◌*◌, ◌/◌, ◌%◌, ◌<◌, arith, refl, sym, ap, ap₂, subst, ◌∙◌, List}
+use Rattle.std.proofs.Common.{◌++◌, All, tt}
 use Rattle.std.proofs.Common.{[], ◌∷◌, mod-lt, div-lt_iff_lt-mul}
 use Rattle.std.specs.Prelude.{slice_index}
 use Rattle.std.proofs.Math.Nat.{div-add-mod', mod-eq_of_lt}
+use Rattle.std.proofs.lemmas.List.Elements.{All-cons, All-head, All-nil, All-tail}
 use Rattle.operators.specs.Identities.{widened, MovesWholeLines}
 use Rattle.operators.specs.Operator.{Operator, gather, on_columns, column, block}
 use Rattle.operators.proofs.Lists.{at-list_below, list_below-same_rows, row-of, column-of, place_below, factor_positive}
@@ -14,7 +16,8 @@ use Rattle.smp_rewrite.specs.Layout.Step.{PlainCore, PlainStep, step}
 use Rattle.operators.specs.declared.paths.Tensor.{Tensor}
 use Rattle.operators.specs.declared.paths.Tensor.TheVariants.{Blocks, Columns}
 use Rattle.operators.specs.Paths.Tensors.{Path, grown, size_under, one_under, under}
-use Rattle.smp_rewrite.specs.Laws.{step_size, IsPermutation, IsMove, MovesLines}
+use Rattle.smp_rewrite.specs.Laws.{step_size, HasShape, IsMove, IsPermutation, IsShaped, MovesByLines, MovesLines, MovesWhole}
+use Rattle.smp_rewrite.specs.Smp.{PlainFactor, blocks, diagonals, move_before, move_after, PlainSmp}
 use Rattle.smp_rewrite.proofs.Cores.{IsGather, core-gathers}
 
 -- ---- a gather under tensors is a gather
@@ -103,3 +106,23 @@ moved m n line (Columns k ∷ path) core positive h = subst (λ n. Moved m line 
 
 pub moves_lines : MovesLines
 moves_lines m n line s positive h = moved m n line s.path s.core positive h
+
+-- ---- so do those of a formula whose factors have their shape
+
+factor_moves : (m n p line : ℕ) → 0 < line → (f : PlainFactor) → HasShape n p line f → MovesByLines m n line f
+factor_moves m n p line positive (blocks s) h = tt
+factor_moves m n p line positive (diagonals s) h = tt
+factor_moves m n p line positive (move_before s) h = moves_lines m n line s positive h
+factor_moves m n p line positive (move_after s) h = moves_lines m n line s positive h
+
+factors_move : (m n p line : ℕ) → 0 < line → (fs : List PlainFactor) → All (HasShape n p line) fs →
+    All (MovesByLines m n line) fs
+factors_move m n p line positive [] h = All-nil
+factors_move m n p line positive (f ∷ fs) h =
+    All-cons (MovesByLines m n line) f fs
+    (factor_moves m n p line positive f (All-head (HasShape n p line) f fs h))
+    (factors_move m n p line positive fs (All-tail (HasShape n p line) f fs h))
+
+pub moves_whole : (f : PlainSmp) → 0 < f.target.line → IsShaped f → MovesWhole f
+moves_whole f positive h =
+    factors_move f.target.modulus f.target.size f.target.procs f.target.line positive (f.first ++ f.second) h.0

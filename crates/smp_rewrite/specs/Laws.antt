@@ -54,6 +54,21 @@ HasShape n p line (diagonals s) = (step_size s ≡ n) × IsDiagonal s.core × (n
 HasShape n p line (move_before s) = IsMove n line s
 HasShape n p line (move_after s) = IsMove n line s
 
+-- a step that takes what goes to a line from a line, item by item
+abbrev pub TakesLines : ℕ → ℕ → ℕ → PlainStep → Type 0
+TakesLines m n line s = (f : ℕ → ℕ) × ((x : List ℕ) → step_on m s x ≡ gather n f x) × MovesWholeLines line n f
+
+-- a factor that is no move, or one of whole lines
+abbrev pub MovesByLines : ℕ → ℕ → ℕ → PlainFactor → Type 0
+MovesByLines m n line (blocks s) = Unit {0}
+MovesByLines m n line (diagonals s) = Unit {0}
+MovesByLines m n line (move_before s) = TakesLines m n line s
+MovesByLines m n line (move_after s) = TakesLines m n line s
+
+-- every move of the formula is of whole lines
+abbrev pub MovesWhole : PlainSmp → Type 0
+MovesWhole f = All (MovesByLines f.target.modulus f.target.size f.target.line) (f.first ++ f.second)
+
 -- the products at the end are in equal parts
 abbrev pub HasEqualParts : ℕ → ℕ → Option ℕ → Type 0
 HasEqualParts n p None = Unit {0}
@@ -103,8 +118,6 @@ LayoutsFit =
     (c : Request) (t : Breakdown) → IsValid c → IsWholeTree c t →
     CanShareLayout (target_of c) (layout_of (forward_of c) t)
 
--- a permutation whose width is a number of lines takes what goes to a line from a line, item by item
+-- a permutation whose width is a number of lines moves whole lines
 abbrev pub MovesLines : Type 0
-MovesLines =
-    (m n line : ℕ) (s : PlainStep) → 0 < line → IsMove n line s →
-    (f : ℕ → ℕ) × ((x : List ℕ) → step_on m s x ≡ gather n f x) × MovesWholeLines line n f
+MovesLines = (m n line : ℕ) (s : PlainStep) → 0 < line → IsMove n line s → TakesLines m n line s

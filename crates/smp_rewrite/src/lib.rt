@@ -19,7 +19,7 @@ ghost use Rattle.operators.specs.declared.paths.Tensor.TheVariants.{Columns};
 ghost use Rattle.tree_model.specs.Breakdown.{breakdown_of};
 ghost use Rattle.tree_model.specs.Chosen.{IsWholeTree, whole_cost};
 ghost use Rattle.smp_rewrite.specs.Cut.{cut, closed_cut, cut_factors, factors_of, first_count, is_left, right_count, smp_of, whole_factor};
-ghost use Rattle.smp_rewrite.specs.Laws.{IsGoodSmpOf, IsShaped, IsSmpOfTree, LayoutsFit, MovesLines, SmpCosts, SmpShaped, SmpTransforms, step_size};
+ghost use Rattle.smp_rewrite.specs.Laws.{IsGoodSmpOf, IsShaped, IsSmpOfTree, LayoutsFit, MovesLines, MovesWhole, SmpCosts, SmpShaped, SmpTransforms, step_size};
 ghost use Rattle.smp_rewrite.specs.Smp.{PlainFactor, smp_on, smp_shares, within};
 ghost use Rattle.smp_rewrite.specs.Views.{plain_factor, plain_smp};
 
@@ -71,6 +71,7 @@ pub fn to_smp(alloc: Global, c: &Ctx, tree: &Tree, formula: Spl) -> Result<SmpSp
         (λ f. c.now.procs * sum (smp_shares c.now.weight c.now.modulus (plain_smp f))
         ≡ whole_cost c.now (breakdown_of tree.now)) }
     ensures shape { IfOk result (λ f. IsShaped (plain_smp f)) }
+    ensures lines { IfOk result (λ f. MovesWhole (plain_smp f)) }
     ensures fits { IfOk result (λ f. IsGoodSmpOf (target_of c.now) (plain_smp f)) }
     ensures tree { IfOk result (λ f. IsSmpOfTree c.now (breakdown_of tree.now) (plain_smp f)) }
 {

@@ -9,7 +9,7 @@ use Rattle.commands.specs.Emission.Whole.{conv_emission}
 use Rattle.commands.specs.Equations.Formulas.{formed}
 use Rattle.commands.specs.Equations.Front.{line}
 use Rattle.commands.specs.Formulas.Letters.{program_for}
-use Rattle.commands.specs.Good.{IsVector}
+use Rattle.spl_ast.specs.Meaning.{IsVector}
 use Rattle.commands.specs.Input.Commands.{admitted, first_stranger}
 use Rattle.commands.proofs.FormulaLemmas.Programs.{formula_programs_are_code}
 use Rattle.commands.proofs.FormulaLemmas.Shaped.{written_few, written_shaped}
@@ -20,7 +20,6 @@ use Rattle.matrix_meaning.specs.declared.Request.{Request}
 use Rattle.request_text.proofs.Judged.{conv_in_range}
 use Rattle.schedules.specs.Turns.{named}
 use Rattle.runs.specs.Stream.{lines}
-use Rattle.sigma_spl.specs.Good as vector
 use Rattle.spiral_main.specs.FormulaTheorem.{FormulasAreRight, IsRightCode, IsRightConvolver, IsRightFormulaAnswer}
 use Rattle.spiral_main.specs.FormulaTheorem.{IsRightFormulaRun}
 use Rattle.spiral_main.specs.Outcome.{Accounts, AccountsFor}
@@ -44,7 +43,7 @@ right_code m f large small shaped few =
     record {
       header = good.header;
       phases = good.phases;
-      leaves = leaves_asked (vector.IsVector m (size_of f)) (formulas.apply m f) (program_for m f) good.limits good.tables
+      leaves = leaves_asked (IsVector m (size_of f)) (formulas.apply m f) (program_for m f) good.limits good.tables
           good.fits good.fresh good.apart
           (λ x vector. vector.size ∙ sym good.header.size)
           (λ x vector. good.product x [] vector (All-nil (λ q. q < 1)));
@@ -58,7 +57,7 @@ right_convolver r t h able planned =
     record {
       header = good.header;
       phases = good.phases;
-      leaves = leaves_asked (IsVector r) (convolution r.modulus r.size h) (conv_emission r t h) good.limits good.tables
+      leaves = leaves_asked (IsVector r.modulus r.size) (convolution r.modulus r.size h) (conv_emission r t h) good.limits good.tables
           good.fits good.fresh good.apart
           (λ x vector. vector.size ∙ sym good.header.size)
           (λ x vector. good.product x [] vector (All-nil (λ q. q < r.procs)));

@@ -5,7 +5,7 @@ use Rattle.std.specs.declared.option.Option.{Option}
 use Rattle.commands.specs.Emission.Whole.{emission}
 use Rattle.commands.specs.Equations.Front.{line}
 use Rattle.commands.specs.Equations.Orders.{Planned}
-use Rattle.commands.specs.Good.{IsVector}
+use Rattle.spl_ast.specs.Meaning.{IsVector}
 use Rattle.commands.specs.Planned.{IsPlanned}
 use Rattle.commands.specs.Input.Orders.{procs_in}
 use Rattle.commands.proofs.GoodPrograms.{programs_are_good}
@@ -89,7 +89,7 @@ right_program r t range planned =
     let good = known.0 in
     record {
       header = good.header;
-      leaves = leaves_asked (IsVector r) (asked_of r) program known.2 known.3 good.fits good.fresh good.apart
+      leaves = leaves_asked (IsVector r.modulus r.size) (asked_of r) program known.2 known.3 good.fits good.fresh good.apart
           (λ x vector. vector.size ∙ sym good.header.size)
           (λ x vector. good.product x [] vector (All-nil (λ q. q < r.procs)));
       operations = good.operations;

@@ -2,7 +2,7 @@
 use Rattle.std.proofs.Common.{◌≡◌, ◌∙◌, ℕ, true, List, [], ◌++◌, ap, map}
 use Rattle.std.proofs.lemmas.List.Elements.{All-nil}
 use Rattle.commands.specs.Equations.Orders.{Planned}
-use Rattle.commands.specs.Good.{IsVector}
+use Rattle.spl_ast.specs.Meaning.{IsVector}
 use Rattle.data_stream.specs.Line.{line_of}
 use Rattle.icode.specs.Actions.{plain_code}
 use Rattle.icode.specs.Buffers.{buffered_start}
@@ -23,10 +23,10 @@ pub ends_with_results : (plan : Planned) (program : PlainProgram) → IsLeanFor 
     EndsWithResults plan program
 ends_with_results plan program lean = by_order
   where
-    first : (x : List ℕ) → IsVector plan.request x → results (plain_code program) x [] ≡ asked_of plan.request x
+    first : (x : List ℕ) → IsVector plan.request.modulus plan.request.size x → results (plain_code program) x [] ≡ asked_of plan.request x
     first x vector = lean.0.product x [] vector (All-nil _)
 
-    with_buffers : (events : List Event) (x : List ℕ) → IsVector plan.request x → (front : List ℕ)
+    with_buffers : (events : List Event) (x : List ℕ) → IsVector plan.request.modulus plan.request.size x → (front : List ℕ)
         × (buffered_text true (plain_code program) events x ≡ front ++ line_of (asked_of plan.request x))
     with_buffers events x vector =
         let code = plain_code program in

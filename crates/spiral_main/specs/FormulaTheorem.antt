@@ -15,7 +15,8 @@ use Rattle.commands.specs.Convolutions.ConvPlanned.{conv_cost}
 use Rattle.commands.specs.Equations.Front.{line}
 use Rattle.commands.specs.Equations.Orders.{Planned}
 use Rattle.commands.specs.Formulas.Code as code
-use Rattle.commands.specs.Good.{HasHeader, IsVector}
+use Rattle.commands.specs.Good.{HasHeader}
+use Rattle.spl_ast.specs.Meaning.{IsVector}
 use Rattle.commands.specs.Input.Commands.{first_stranger}
 use Rattle.icode.specs.Actions.{plain_code}
 use Rattle.icode.specs.Machine.{weighted, whole_counts}
@@ -26,7 +27,6 @@ use Rattle.schedules.specs.Schedule.{Plan as Turns}
 use Rattle.schedules.specs.Turns.{named}
 use Rattle.runs.specs.Stream.{lines}
 use Rattle.sigma_lower.specs.Operations.{operations}
-use Rattle.sigma_spl.specs.Good as vector
 use Rattle.spiral_main.specs.Good.{vectors_read}
 use Rattle.spiral_main.specs.RightFront.{HasWholeVectors, IsRightConvLine, IsRightFormulaLine}
 use Rattle.spiral_main.specs.RightFront.{request_vectors, vectors_behind}
@@ -48,7 +48,7 @@ pub record IsRightCode (m : ℕ) (f : Formula) (p : PlainProgram) : Type 0 where
   pub header : code.HasHeader m f p
   pub phases : length (plain_code p).lists ≡ 1
   -- it leaves the formula's matrix times the vector
-  pub leaves : Leaves (vector.IsVector m (size_of f)) (formulas.apply m f) p
+  pub leaves : Leaves (IsVector m (size_of f)) (formulas.apply m f) p
   pub operations : weighted 1 (whole_counts (plain_code p) 0) ≡ operations 1 m f
 
 -- p is right for convolutions with h, and does no more than two transforms by the tree t and the products between them
@@ -57,7 +57,7 @@ pub record IsRightConvolver (r : Request) (t : Breakdown) (h : List ℕ) (p : Pl
   pub header : HasHeader r p
   pub phases : length (plain_code p).lists ≡ 1
   -- it leaves the convolution of h and the vector
-  pub leaves : Leaves (IsVector r) (convolution r.modulus r.size h) p
+  pub leaves : Leaves (IsVector r.modulus r.size) (convolution r.modulus r.size h) p
   pub operations : weighted r.weight (whole_counts (plain_code p) 0) ≡ conv_cost r t
   pub loads : (whole_counts (plain_code p) 0).loads ≡ 2 * loads_of r t
   pub stores : (whole_counts (plain_code p) 0).stores ≡ 2 * stores_of r t

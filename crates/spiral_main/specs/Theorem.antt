@@ -26,7 +26,8 @@ use Rattle.std.specs.declared.option.Option.{Option}
 use Rattle.std.specs.Io.KnownBytes.{Appends, Consumes}
 use Rattle.commands.specs.Equations.Front.{line}
 use Rattle.commands.specs.Equations.Orders.{Planned}
-use Rattle.commands.specs.Good.{HasHeader, IsVector}
+use Rattle.commands.specs.Good.{HasHeader}
+use Rattle.spl_ast.specs.Meaning.{IsVector}
 use Rattle.commands.specs.Input.Orders.{procs_in}
 use Rattle.icode.specs.Actions.{PlainFits, plain_code}
 use Rattle.icode.specs.Buffers.{buffered_results}
@@ -81,7 +82,7 @@ pub record IsRightProgram (r : Request) (t : Breakdown) (p : PlainProgram) : Typ
   -- it is for the size, modulus, processors, cache lines and lanes of the request
   pub header : HasHeader r p
   -- it leaves the matrix times the vector
-  pub leaves : Leaves (IsVector r) (asked_of r) p
+  pub leaves : Leaves (IsVector r.modulus r.size) (asked_of r) p
   -- operations, where a multiplication counts as the request's weight, loads and stores are those of the tree
   pub operations : AreEqualShares r p (weighted r.weight) (whole_cost r t)
   pub loads : AreEqualShares r p (λ c. c.loads) (whole_loads r t)

@@ -32,7 +32,8 @@ use Rattle.code_gen.proofs.WholePrograms.FreshPhases.{all-fresh, fresh-code, Kno
 use Rattle.icode.proofs.Words.{length-words_at}
 use Rattle.operators.proofs.Lists.{length-list_below}
 use Rattle.code_gen.specs.PassCode.Contract.{CanProgram, IsByPhase, Performs, ProgramsPerform}
-use Rattle.sigma_spl.specs.Good.{IsVector}
+use Rattle.sigma_spl.specs.Meaning.{IsVector}
+use Rattle.sigma_spl.proofs.Walk.{residue_at}
 use Rattle.sigma_spl.specs.Merged.{PlainMerged, merged_on, phase_on, phases_on}
 use Rattle.sigma_spl.specs.Nest.{nests_on}
 use Rattle.code_gen.proofs.WholePrograms.Processor.{Pass, AllKnown, passes_acts, runs-of, target-other, AllFrom}
@@ -303,7 +304,7 @@ module _ (c : Target) (g : PlainMerged) (can : CanProgram c g) where
                 omega (arith, long, same);
           };
           held = λ i low. let here : 0 + i ≡ i = omega arith in let size = vector.size in ap (slice_index begun.memory) here ∙ get_or_append_left x (replicate (4 * words - c.size) 0) 0 i (omega (arith, low, size));
-          residues = vector.residues;
+          residues = λ i low. residue_at c.modulus c.size x i vector low;
         }
 
     ended : Ready c words enough code refl refl refl p.regs (final_array c words enough code refl refl refl pss 0 X)

@@ -11,7 +11,7 @@ use Rattle.icode.proofs.Lines.{Contains-head, Contains-tail}
 use Rattle.sigma_spl.specs.Shared.Running.{CanRun, IsStoredBy, IsLoadedBy}
 use Rattle.operators.specs.declared.target.Target.{Target}
 use Rattle.sigma_spl.specs.Shared.Machine.{framed_lanes, if_several}
-use Rattle.sigma_spl.proofs.Walk.{nests-vector}
+use Rattle.sigma_spl.proofs.Walk.{nests-vector, residue_at}
 use Rattle.sigma_spl.specs.Copies.{loops_of, hits}
 use Rattle.sigma_spl.specs.Nest.{PlainNest, copies_of, store_place, nests_on}
 use Rattle.sigma_spl.specs.Work.{work_size}
@@ -121,7 +121,7 @@ module _ (c : Target) (zs : List PlainNest) (can : CanRun c zs) where
 
   -- what a pass leaves are residues
   pub made-residues : (x : List ℕ) (i : ℕ) → i < c.size → slice_index (nests_on c.modulus c.size zs x) i < c.modulus
-  made-residues x = (nests-vector c.modulus c.size zs x (modulus-some c zs can)).residues
+  made-residues x i = residue_at c.modulus c.size _ i (nests-vector c.modulus c.size zs x (modulus-some c zs can))
 
 -- ---- what is known of passes, phase by phase, and their actions
 

@@ -15,7 +15,7 @@ use Rattle.operators.specs.declared.target.Target.{Target}
 use Rattle.code_gen.specs.PassActions.Laws.{counted}
 use Rattle.sigma_spl.specs.Shared.Names.{share_of}
 use Rattle.code_gen.specs.PassCode.Program.{written_array, tables_of_phases, program_of}
-use Rattle.sigma_spl.specs.Good.{IsVector}
+use Rattle.sigma_spl.specs.Meaning.{IsVector}
 use Rattle.sigma_spl.specs.Merged.{PlainMerged, merged_on}
 use Rattle.sigma_spl.specs.Nest.{PlainNest}
 use Rattle.sigma_spl.specs.Shared.Owners.{ArePhasesShared, all_passes, most_actions, IsHost}

@@ -6,7 +6,7 @@ use Rattle.spl_ast.proofs.HalvesLemmas.Sums.{alike, parts_alike}
 use Rattle.generate.specs.FormulaCode.Code.{IsCodeOf}
 use Rattle.sigma_lower.specs.Operations.{operations}
 use Rattle.icode.specs.Plain.{PlainProgram}
-use Rattle.sigma_spl.specs.Good.{IsVector}
+use Rattle.spl_ast.specs.Meaning.{IsVector}
 use Rattle.spl_ast.specs.Formula.{Formula, size_of, parts_of}
 use Rattle.spl_ast.specs.Meaning.{IsSameMatrix}
 use Rattle.spl_ast.proofs.Vectors.{vector_of}

@@ -22,7 +22,7 @@ use Rattle.sigma_lower.proofs.CanMerge.{trees_can_merge}
 use Rattle.sigma_lower.proofs.Sigmas.{sigma_transforms}
 use Rattle.sigma_lower.proofs.TreeSigmas.Laws.{trees_are_sigmas}
 use Rattle.sigma_spl.proofs.Phases.{sigma_merges}
-use Rattle.sigma_spl.specs.Good.{IsVector}
+use Rattle.spl_ast.specs.Meaning.{IsVector}
 use Rattle.sigma_spl.specs.Trees.{IsMergedTree}
 
 -- ---- from a tree to its merged passes

@@ -7,7 +7,7 @@ use Rattle.icode.specs.Limits.{IsWithinLimits}
 use Rattle.icode.specs.Machine.{IsApart, results, weighted, whole_counts}
 use Rattle.icode.specs.Plain.{PlainProgram}
 use Rattle.sigma_lower.specs.Operations.{operations}
-use Rattle.sigma_spl.specs.Good.{IsVector}
+use Rattle.spl_ast.specs.Meaning.{IsVector}
 use Rattle.spl_ast.specs.Formula.{Formula, size_of}
 use Rattle.spl_ast.specs.Meaning.{apply}
 

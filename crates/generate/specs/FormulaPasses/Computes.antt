@@ -9,7 +9,7 @@ use Rattle.icode.specs.Plain.{PlainProgram}
 use Rattle.loop_merge.specs.Coalescing.Copies.{all_coalesced}
 use Rattle.sigma_spl.specs.Shared.Machine.{plain_machine}
 use Rattle.code_gen.specs.PassCode.Contract.{Performs}
-use Rattle.sigma_spl.specs.Good.{IsVector}
+use Rattle.spl_ast.specs.Meaning.{IsVector}
 use Rattle.sigma_spl.specs.Merge.{passes_of}
 use Rattle.sigma_spl.specs.Merged.{PlainMerged}
 use Rattle.sigma_spl.specs.PlainPasses.{plain_phase}

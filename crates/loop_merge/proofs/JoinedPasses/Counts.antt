@@ -4,12 +4,12 @@ use Rattle.std.proofs.lemmas.List.{map-append}
 use Rattle.loop_merge.specs.JoinedPasses.InOnePhase.{joined}
 use Rattle.loop_merge.specs.JoinedPasses.Laws.{CountBoth}
 use Rattle.loop_merge.specs.MultipliedPasses.Multiplied.{multiplied_last}
-use Rattle.loop_merge.proofs.MultipliedPasses.Counts.{last-costs, last-loads, most-last}
+use Rattle.loop_merge.proofs.MultipliedPasses.Counts.{last-costs, last-loads, last-stores, most-last}
 use Rattle.operators.specs.declared.target.Target.{Target}
 use Rattle.sigma_spl.specs.Lists.{LastIs}
 use Rattle.sigma_spl.specs.Merged.{PlainMerged}
 use Rattle.sigma_spl.specs.Nest.{PlainNest, values}
-use Rattle.sigma_spl.specs.Shared.Costs.{pass_cost, pass_loads}
+use Rattle.sigma_spl.specs.Shared.Costs.{pass_cost, pass_loads, stored_in_pass}
 use Rattle.sigma_spl.specs.Shared.Owners.{all_passes, most_actions}
 use Rattle.sigma_spl.specs.Shared.Ready.{IsReadyPass}
 use Rattle.sigma_spl.specs.Trees.{IsFree}
@@ -42,6 +42,10 @@ joined_counts g k ds h ready free =
           ap (map pass_loads) whole
           ∙ map-append pass_loads changed second
           ∙ ap (λ ns. ns ++ map pass_loads second) (last-loads h (values ds) first);
+      stores =
+          ap (map stored_in_pass) whole
+          ∙ map-append stored_in_pass changed second
+          ∙ ap (λ ns. ns ++ map stored_in_pass second) (last-stores h (values ds) first);
     }
 
 -- so does what has their phases

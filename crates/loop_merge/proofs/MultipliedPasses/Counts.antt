@@ -8,7 +8,7 @@ use Rattle.loop_merge.specs.JoinedPasses.Laws.{more_last}
 use Rattle.loop_merge.specs.MultipliedPasses.Multiplied.{multiplied_last, with_factors}
 use Rattle.loop_merge.proofs.MultipliedPasses.Lasts.{length-last}
 use Rattle.sigma_spl.specs.Lists.{LastIs}
-use Rattle.sigma_spl.specs.Shared.Costs.{pass_cost, pass_loads, work_cost, work_loads}
+use Rattle.sigma_spl.specs.Shared.Costs.{pass_cost, pass_loads, stored_in_pass, work_cost, work_loads}
 use Rattle.sigma_spl.specs.Shared.Ready.{IsReadyPass, nests_tables, passes_tables}
 use Rattle.sigma_spl.specs.Shared.Running.{CanRun, CanRunNest}
 use Rattle.operators.specs.declared.target.Target.{Target}
@@ -53,6 +53,10 @@ module _ (h : Target) (ds : PlainFactors) where
   loads-with [] = refl
   loads-with (z ∷ zs) = ap (λ n. copies_in z.counts * work_loads z.work + n) (loads-with zs)
 
+  stores-with : (zs : List PlainNest) → stored_in_pass (map (with_factors ds) zs) ≡ stored_in_pass zs
+  stores-with [] = refl
+  stores-with (z ∷ zs) = ap (λ n. copies_in z.counts * work_size z.work + n) (stores-with zs)
+
   -- ---- pass by pass
 
   pub last-costs : (weight : ℕ) (ps : List (List PlainNest)) → All (IsReadyPass h) ps → LastIs IsFree ps →
@@ -66,6 +70,11 @@ module _ (h : Target) (ds : PlainFactors) where
   last-loads [] = refl
   last-loads (zs ∷ []) = ap (λ n. n ∷ []) (loads-with zs)
   last-loads (zs ∷ ys ∷ ps) = ap (λ ns. pass_loads zs ∷ ns) (last-loads (ys ∷ ps))
+
+  pub last-stores : (ps : List (List PlainNest)) → map stored_in_pass (multiplied_last ds ps) ≡ map stored_in_pass ps
+  last-stores [] = refl
+  last-stores (zs ∷ []) = ap (λ n. n ∷ []) (stores-with zs)
+  last-stores (zs ∷ ys ∷ ps) = ap (λ ns. stored_in_pass zs ∷ ns) (last-stores (ys ∷ ps))
 
   -- ---- together
 

@@ -5,7 +5,7 @@ use Rattle.operators.specs.declared.target.Target.{Target}
 use Rattle.sigma_spl.specs.Lists.{LastIs, on_last}
 use Rattle.sigma_spl.specs.Merged.{PlainMerged, merged_on}
 use Rattle.sigma_spl.specs.Nest.{values}
-use Rattle.sigma_spl.specs.Shared.Costs.{pass_cost, pass_loads}
+use Rattle.sigma_spl.specs.Shared.Costs.{pass_cost, pass_loads, stored_in_pass}
 use Rattle.sigma_spl.specs.Shared.Owners.{all_passes, most_actions}
 use Rattle.sigma_spl.specs.Shared.Ready.{IsReady, passes_tables}
 use Rattle.sigma_spl.specs.Trees.{IsFree}
@@ -54,6 +54,9 @@ pub record CountsJoined (h : Target) (g k all : PlainMerged) : Type 0 where
   pub loads :
       map pass_loads (all_passes all.phases)
       ≡ map pass_loads (all_passes g.phases) ++ map pass_loads (all_passes k.phases)
+  pub stores :
+      map stored_in_pass (all_passes all.phases)
+      ≡ map stored_in_pass (all_passes g.phases) ++ map stored_in_pass (all_passes k.phases)
 
 -- so on each machine for which a program can be made of g
 abbrev pub CountBoth : PlainMerged → PlainMerged → PlainMerged → Type 0

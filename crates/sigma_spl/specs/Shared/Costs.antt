@@ -26,3 +26,8 @@ work_loads w = work_size w
 abbrev pub pass_loads : List PlainNest → ℕ
 pass_loads [] = 0
 pass_loads (z ∷ zs) = copies_in z.counts * work_loads z.work + pass_loads zs
+
+-- a word for each item
+abbrev pub stored_in_pass : List PlainNest → ℕ
+stored_in_pass [] = 0
+stored_in_pass (z ∷ zs) = copies_in z.counts * work_size z.work + stored_in_pass zs

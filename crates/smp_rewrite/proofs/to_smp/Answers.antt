@@ -2,10 +2,11 @@ use Rattle.std.proofs.Common.{◌*◌, ap, ap₂, sym, subst, ◌∙◌, []}
 use Rattle.std.specs.List.{sum}
 use Rattle.matrix_meaning.specs.Parts.{forward_of}
 use Rattle.matrix_meaning.specs.declared.Request.{Request}
-use Rattle.smp_rewrite.specs.Cut.{closed_cut}
-use Rattle.smp_rewrite.specs.Laws.{IsShaped}
+use Rattle.smp_rewrite.specs.Cut.{closed_cut, smp_of}
+use Rattle.smp_rewrite.specs.Laws.{IsShaped, MovesWhole}
 use Rattle.smp_rewrite.specs.Smp.{smp_on, smp_shares}
 use Rattle.smp_rewrite.specs.Walk.{closing_in, tree_steps}
+use Rattle.smp_rewrite.proofs.Moves.{moves_whole}
 use Rattle.smp_rewrite.proofs.Sized.{sized_steps}
 use Rattle.smp_rewrite.proofs.TreeLaws.{smp_transforms, smp_costs, smp_shaped, layouts_fit}
 use Rattle.smp_rewrite.proofs.Walks.{whole_factor, whole_formula, whole_steps}
@@ -75,6 +76,16 @@ returns-clause-shape c =
     let valid = c.request-request.ensures.valid in
     subst IsShaped (sym (returns-clause-form c))
     (smp_shaped (target_of request) (whole_of request t) (layouts_fit request t valid c.requires.tree))
+
+pub returns-clause-lines : goal.returns-clause-lines
+returns-clause-lines c =
+    let request = c.args.c.now in
+    let t = breakdown_of c.args.tree.now in
+    let valid = c.request-request.ensures.valid in
+    let line = valid.in_range.line.0 in
+    subst MovesWhole (sym (returns-clause-form c))
+    (moves_whole (smp_of (target_of request) (whole_of request t)) (omega (arith, line))
+    (smp_shaped (target_of request) (whole_of request t) (layouts_fit request t valid c.requires.tree)))
 
 pub returns-clause-fits : goal.returns-clause-fits
 returns-clause-fits c =
