@@ -4,6 +4,7 @@ ghost use Rattle.std.specs.Option.{option_map};
 ghost use Rattle.sigma_spl.specs.Merge.{lifted, renumbered, renumbered_places};
 ghost use Rattle.sigma_spl.specs.Views.{plain_multiplier, plain_nest};
 ghost use Rattle.perm_algebra.specs.Affine.{constant, added};
+ghost use Rattle.perm_algebra.specs.Room.{CanAdd};
 ghost use Rattle.perm_algebra.specs.Views.{plain_sum};
 ghost use Rattle.operators.specs.Paths.Tensors.{count_of};
 ghost use Rattle.loop_nests.specs.Lifted.{AllFit, AllLift, CanLift, CanRaise, IsCounted, SumsFit, behind, raised};
@@ -154,9 +155,16 @@ fn raise_sums(before: u64, sums: &mut [Affine])
     match sums.split_first_mut() {
         None => (),
         Some((sum, rest)) => {
-            let here = replace(sum, Affine::Constant(0));
-            replace(sum, both(Affine::Constant(before), here));
+            raise_sum(before, sum);
             raise_sums(before, rest);
         }
     }
+}
+
+fn raise_sum(before: u64, sum: &mut Affine)
+    requires { CanAdd (constant before) (plain_sum sum.old) }
+    ensures { plain_sum sum.new ≡ added (constant before) (plain_sum sum.old) }
+{
+    let here = replace(sum, Affine::Constant(0));
+    *sum = both(Affine::Constant(before), here);
 }
