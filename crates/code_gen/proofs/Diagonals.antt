@@ -10,7 +10,7 @@ use Rattle.code_gen.specs.PassCode.Statements.{diagonal_of}
 use Rattle.operators.specs.Paths.Tensors.{Path, count_of, grown, size_under}
 use Rattle.operators.specs.declared.paths.Tensor.{Tensor}
 use Rattle.operators.specs.declared.paths.Tensor.TheVariants.{Blocks, Columns}
-use Rattle.loop_nests.proofs.PlaceLemmas.Carries.{inner-below}
+use Rattle.sigma_spl.proofs.Keeps.{inner-below}
 
 -- one tensor more
 pub grown-is : (t : Tensor) (n : ℕ) → count_of t * n ≡ grown t n

@@ -23,7 +23,7 @@ use Rattle.icode.specs.declared.action.Action.{Action}
 use Rattle.icode.specs.declared.action.Counts.{Counts}
 use Rattle.icode.specs.declared.program.Array.{Array}
 use Rattle.icode.specs.declared.program.Array.TheVariants.{X}
-use Rattle.loop_nests.proofs.Shares.{runs_have_shares}
+use Rattle.sigma_spl.proofs.Shares.{runs_have_shares}
 use Rattle.operators.specs.Sum.{sum_below}
 use Rattle.operators.specs.declared.target.Target.{Target}
 use Rattle.sigma_spl.specs.Merged.{PlainMerged}

@@ -4,7 +4,7 @@ use Rattle.std.proofs.Common.{◌∷◌, ◌++◌, All, length, length-append, i
 use Rattle.std.specs.Prelude.{map, reverse}
 use Rattle.std.proofs.lemmas.List.{length-map, map-append, reverse-append}
 use Rattle.std.proofs.lemmas.List.Elements.{All-append, All-cons, All-head, All-nil, All-tail, All-weaker}
-use Rattle.loop_nests.proofs.Shares.{runs_have_shares}
+use Rattle.sigma_spl.proofs.Shares.{runs_have_shares}
 use Rattle.matrix_meaning.specs.declared.Request.{Request}
 use Rattle.operators.specs.declared.target.Target.{Target}
 use Rattle.sigma_spl.proofs.Listed.{merge_listed}

@@ -1,8 +1,6 @@
 pub mod PlaceLemmas
 pub mod LimitLemmas
 pub mod Naming
-pub mod Frames
-pub mod Shares
 pub mod Items
 pub mod Lifting
 pub mod Standing

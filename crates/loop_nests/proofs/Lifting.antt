@@ -117,8 +117,3 @@ all_raised depth path n before items few = each items
     each (x ∷ xs) k =
         All-cons (λ e. CanRaise (2 ^ 64 - length path) path n before (plain_sum e)) x xs
         (wider (plain_sum x) k.0) (each xs k.1)
-
-pub all_counted : (m : ℕ) (items : List Affine) → AreCounted m (map plain_sum items) →
-    All (λ e. HasCounts m (plain_sum e)) items
-all_counted m [] h = All-nil (λ e. HasCounts m (plain_sum e))
-all_counted m (x ∷ xs) h = All-cons (λ e. HasCounts m (plain_sum e)) x xs h.0 (all_counted m xs h.1)

@@ -7,13 +7,12 @@ ghost use Rattle.perm_algebra.specs.Affine.{constant, added};
 ghost use Rattle.perm_algebra.specs.Room.{CanAdd};
 ghost use Rattle.perm_algebra.specs.Views.{plain_sum};
 ghost use Rattle.operators.specs.Paths.Tensors.{count_of};
-ghost use Rattle.loop_nests.specs.Lifted.{AllFit, AllLift, CanLift, CanRaise, IsCounted, SumsFit, behind, raised};
-ghost use Rattle.loop_nests.specs.Placed.{CanRenumber};
+ghost use Rattle.loop_nests.specs.Lifted.{AllFit, AllLift, AreCounted, CanLift, CanRaise, IsCounted, SumsFit, behind, raised};
 
-use crate::placed::{placed, renumbered};
+use crate::placed::{placed, renumber};
 use memory::NoMemory;
 use operators::Tensor;
-use perm_algebra::{Affine, both};
+use perm_algebra::{Affine, both, copy};
 use sigma_spl::{Multiplier, Nest, counts};
 use smallvec::SmallVec;
 use std::alloc::Global;
@@ -54,7 +53,7 @@ fn lift(
 {
     nest.counts = counts_round(alloc, path, &nest.counts)?;
     nest.gathers = all_raised(alloc, path, size, before, &nest.gathers)?;
-    count_on(alloc, path.len() as u64, &mut nest.multiplier)?;
+    count_on(path.len() as u64, &mut nest.multiplier);
     nest.scatters = all_raised(alloc, path, size, before, &nest.scatters)?;
     Ok(())
 }
@@ -99,38 +98,36 @@ fn raised(
     requires { CanRaise (2 ^ 64 - length path.now) path.now size before (plain_sum sum.now) }
     ensures { IfOk result (λ e. plain_sum e ≡ raised path.now size before (plain_sum sum.now)) }
 {
-    let higher = renumbered(alloc, path.len() as u64, sum)?;
+    let mut higher = copy(alloc, sum)?;
+    renumber(path.len() as u64, &mut higher);
     let behind = both(Affine::Constant(before), higher);
     let place = placed(alloc, path, size, 0, behind)?;
     Ok(place)
 }
 
-// The places of a diagonal's factors, whose variables have higher numbers.
-#[tactic(auto, using(crate::proofs::Lifting::all_counted))]
-fn count_on(alloc: Global, by: u64, multiplier: &mut Option<Multiplier>) -> Result<(), NoMemory>
+// The variables at the places of a diagonal's factors get higher numbers.
+fn count_on(by: u64, multiplier: &mut Option<Multiplier>)
     requires { IsCounted (2 ^ 64 - by) (option_map plain_multiplier multiplier.old) }
-    ensures { OnOk result (option_map plain_multiplier multiplier.new
-        ≡ renumbered_places by (option_map plain_multiplier multiplier.old)) }
+    ensures { option_map plain_multiplier multiplier.new
+        ≡ renumbered_places by (option_map plain_multiplier multiplier.old) }
 {
     match multiplier {
-        None => Ok(()),
-        Some(multiplier) => {
-            multiplier.places = all_renumbered(alloc, by, &multiplier.places)?;
-            Ok(())
-        }
+        None => (),
+        Some(multiplier) => renumber_all(by, &mut multiplier.places),
     }
 }
 
-fn all_renumbered(alloc: Global, by: u64, sums: &[Affine]) -> Result<Vec<Affine>, NoMemory>
-    requires { All (λ e. CanRenumber by (plain_sum e)) sums.now }
-    ensures { IfOk result (λ es.
-        map plain_sum es.items ≡ map (renumbered by) (map plain_sum sums.now)) }
+fn renumber_all(by: u64, sums: &mut [Affine])
+    requires { AreCounted (2 ^ 64 - by) (map plain_sum sums.old) }
+    ensures { map plain_sum sums.new ≡ map (renumbered by) (map plain_sum sums.old) }
 {
-    let mut higher = Vec::new(alloc);
-    for sum in sums {
-        higher.push(renumbered(alloc, by, sum)?)?;
+    match sums.split_first_mut() {
+        None => (),
+        Some((sum, rest)) => {
+            renumber(by, sum);
+            renumber_all(by, rest);
+        }
     }
-    Ok(higher)
 }
 
 /// Nests of a part that begins `before` words later.

@@ -62,26 +62,24 @@ pub(crate) fn placed(
     }
 }
 
-/// The sum with higher numbers for its variables.
-pub(crate) fn renumbered(alloc: Global, by: u64, sum: &Affine) -> Result<Affine, NoMemory>
-    requires { CanRenumber by (plain_sum sum.now) }
-    ensures { IfOk result (λ e. plain_sum e ≡ renumbered by (plain_sum sum.now)) }
+/// The sum's variables get higher numbers.
+pub(crate) fn renumber(by: u64, sum: &mut Affine)
+    requires { CanRenumber by (plain_sum sum.old) }
+    ensures { plain_sum sum.new ≡ renumbered by (plain_sum sum.old) }
 {
     match sum {
-        Affine::Constant(c) => Ok(Affine::Constant(*c)),
-        Affine::Variable(factor, variable, rest) => {
-            let rest = Box::new(alloc, renumbered(alloc, by, rest)?)?;
-            Ok(Affine::Variable(*factor, *variable + by, rest))
+        Affine::Constant(_) => (),
+        Affine::Variable(_, variable, rest) => {
+            *variable += by;
+            renumber(by, rest);
         }
-        Affine::Remainder(factor, of, divisor, rest) => {
-            let of = Box::new(alloc, renumbered(alloc, by, of)?)?;
-            let rest = Box::new(alloc, renumbered(alloc, by, rest)?)?;
-            Ok(Affine::Remainder(*factor, of, *divisor, rest))
+        Affine::Remainder(_, of, _, rest) => {
+            renumber(by, of);
+            renumber(by, rest);
         }
-        Affine::Quotient(factor, of, divisor, rest) => {
-            let of = Box::new(alloc, renumbered(alloc, by, of)?)?;
-            let rest = Box::new(alloc, renumbered(alloc, by, rest)?)?;
-            Ok(Affine::Quotient(*factor, of, *divisor, rest))
+        Affine::Quotient(_, of, _, rest) => {
+            renumber(by, of);
+            renumber(by, rest);
         }
     }
 }

@@ -235,6 +235,13 @@ inner-formed (Columns c ∷ path) n positive =
     let count : 0 < c = right_positive (size_under path n) c positive in
     let inner = inner-formed path n (left_positive (size_under path n) c positive) in record { formed = (omega (arith, count), inner.formed, tt); no_list = (inner.no_list, tt) }
 
+pub inner-below : (path : Path) (n i : ℕ) → i < size_under path n → at (inner_of path n) i < n
+inner-below [] n i below = below
+inner-below (Blocks c ∷ path) n i below =
+    let positive : 0 < size_under path n = factor_positive c (size_under path n) i below in omega (arith, inner-below path n (i % size_under path n) (mod-lt i positive))
+inner-below (Columns c ∷ path) n i below =
+    let positive : 0 < c = factor_positive (size_under path n) c i below in omega (arith, inner-below path n (i / c) ((div-lt_iff_lt-mul positive).1 below))
+
 -- ---- merging
 
 pub nothing-stands : (lanes : ℕ) → (m n : ℕ) → Stands lanes m n nothing

@@ -20,3 +20,5 @@ pub mod Phases
 pub mod Several
 pub mod Fitting
 pub mod Tables
+pub mod Frames
+pub mod Shares

@@ -5,7 +5,7 @@ use Rattle.std.proofs.Common.{inl, inr, map, mul_comm, Contains, Option, Some, N
 use Rattle.std.proofs.lemmas.Bool.Decides.{nat_tests}
 use Rattle.std.proofs.lemmas.List.Elements.{All-contains}
 use Rattle.icode.specs.Sequences.Nests.{AreInRange}
-use Rattle.loop_nests.proofs.Frames.{framed, loops-are, one_or_several}
+use Rattle.sigma_spl.proofs.Frames.{framed, loops-are, one_or_several}
 use Rattle.operators.proofs.Lists.{factor_positive, place_below, at-list_below}
 use Rattle.code_gen.specs.PassActions.Acts.{load_at, store_at, pass_registers}
 use Rattle.sigma_spl.specs.Shared.Running.{CanRunNest, CanWork, IsFramed, IsCopyOf, MovesVectors, CanRun, IsLoadedBy}

@@ -31,7 +31,7 @@ use Rattle.sigma_spl.specs.Shared.Machine.{loop_counts}
 use Rattle.sigma_spl.specs.Work.{PlainWork, kernel, rows, horner, tile, copy, work_size, trees_of}
 use Rattle.tree_model.specs.Trees.{trees_size, PlainTrees}
 use Rattle.icode.proofs.Lines.{Contains-head, Contains-tail}
-use Rattle.loop_nests.proofs.Shares.{runs_have_shares}
+use Rattle.sigma_spl.proofs.Shares.{runs_have_shares}
 use Rattle.code_gen.proofs.PassActions.StraightCopies.{row_acts, ends_of, copy_body}
 use Rattle.code_gen.proofs.PassActions.Fillings.{working}
 use Rattle.code_gen.proofs.PassActions.Copies.{nest-can}

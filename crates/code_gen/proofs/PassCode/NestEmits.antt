@@ -22,7 +22,7 @@ use Rattle.code_gen.specs.PassCode.Statements.{do_only, nest_body, nested, strai
 use Rattle.code_gen.specs.PassCode.Statements.{table_number, tables_of_multiplier, tables_of_nest, tables_of_work}
 use Rattle.code_gen.specs.PassCode.Statements.{term_body, horner_body, with_diagonal, with_table, work_body, pass_body}
 use Rattle.code_gen.specs.PassCode.Statements.{tables_after}
-use Rattle.loop_nests.proofs.Frames.{loops-are}
+use Rattle.sigma_spl.proofs.Frames.{loops-are}
 use Rattle.sigma_spl.proofs.Nests.{one_below, two_below, with_more}
 use Rattle.sigma_spl.specs.Copies.{loops_of}
 use Rattle.sigma_spl.specs.Good.{AreSound}

@@ -6,18 +6,11 @@ use Rattle.index_fn.specs.Mapping.{Mapping, at, IsDefinedAt}
 use Rattle.operators.proofs.Lists.{factor_positive}
 use Rattle.sigma_spl.specs.Merge.{back_of, backs_of, factor_places}
 use Rattle.sigma_spl.specs.Nest.{PlainFactors, factor_count, inner_of}
-use Rattle.sigma_spl.proofs.Keeps.{inner-formed, left_positive, right_positive}
+use Rattle.sigma_spl.proofs.Keeps.{inner-below, inner-formed, left_positive, right_positive}
 use Rattle.loop_nests.specs.Limits.Leading.{CanCarry}
 use Rattle.operators.specs.declared.paths.Tensor.TheVariants.{Blocks, Columns}
 use Rattle.operators.specs.Paths.Tensors.{Path, size_under}
 use Rattle.loop_nests.specs.Places.Known.{AreSteps}
-
-pub inner-below : (path : Path) (n i : ℕ) → i < size_under path n → at (inner_of path n) i < n
-inner-below [] n i below = below
-inner-below (Blocks c ∷ path) n i below =
-    let positive : 0 < size_under path n = factor_positive c (size_under path n) i below in omega (arith, inner-below path n (i % size_under path n) (mod-lt i positive))
-inner-below (Columns c ∷ path) n i below =
-    let positive : 0 < c = factor_positive (size_under path n) c i below in omega (arith, inner-below path n (i / c) ((div-lt_iff_lt-mul positive).1 below))
 
 few : (path : Path) (n : ℕ) → 0 < size_under path n → n ≤ size_under path n
 few [] n some = omega arith

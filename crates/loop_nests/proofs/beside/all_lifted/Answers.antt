@@ -2,7 +2,7 @@ use Rattle.std.proofs.Common.{sym, ap, ◌∙◌, subst, map}
 use Rattle.std.proofs.lemmas.List.{with_items_is}
 use Rattle.sigma_spl.specs.Views.{plain_nest}
 use Rattle.sigma_spl.specs.Merge.{lifted}
-use Rattle.loop_nests.specs.Lifted.{AllFit, behind}
+use Rattle.loop_nests.specs.Lifted.{AllFit, AllLift, behind}
 use Rattle.loop_nests.proofs.Standing.{all-fit, behind-lifted}
 use Rattle.loop_nests.proofs.beside.all_lifted.Goals as goal
 
@@ -10,6 +10,10 @@ pub raise_nests-requires : goal.raise_nests-requires
 raise_nests-requires c =
     subst (λ zs. AllFit c.args.before (map plain_nest zs)) (sym c.deref_mut.ensures.value)
     (all-fit c.args.path.now c.args.size c.args.before (map plain_nest c.args.nests.items) c.in-None.ensures.cases c.requires)
+
+pub lift_nests-requires : goal.lift_nests-requires
+lift_nests-requires c =
+    subst (λ zs. AllLift c.args.path.now c.args.size c.args.before (map plain_nest zs)) (sym c.deref_mut-in-Some.ensures.value) c.requires
 
 pub returns-in-None : goal.returns-in-None
 returns-in-None c =

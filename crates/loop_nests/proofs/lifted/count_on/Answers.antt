@@ -1,5 +1,4 @@
-use Rattle.loop_nests.proofs.Lifting.{all_counted}
 use Rattle.loop_nests.proofs.lifted.count_on.Goals as goal
 
-pub all_renumbered-requires : goal.all_renumbered-requires
-all_renumbered-requires c = rw c.deref.ensures.value (all_counted _ c.in-Some.multiplier.places.items (rw c.in-Some.is at c.requires))
+pub renumber_all-requires : goal.renumber_all-requires
+renumber_all-requires c = rw c.deref_mut.ensures.value (rw c.in-Some.is at c.requires)

@@ -1,7 +1,7 @@
 -- In a pass that can run all processors do the same: together they do what the pass counts.
 use Rattle.std.proofs.Common.{◌≡◌, ℕ, ◌+◌, ◌*◌, arith, ap, ap₂, ◌∙◌, sym, List, [], ◌∷◌, map, All, mul-zero}
 use Rattle.std.proofs.lemmas.List.Elements.{All-head, All-tail}
-use Rattle.loop_nests.proofs.Frames.{copies-framed, loops-are}
+use Rattle.sigma_spl.proofs.Frames.{copies-framed, loops-are}
 use Rattle.operators.specs.declared.target.Target.{Target}
 use Rattle.sigma_spl.proofs.Counting.{items_of, items-once}
 use Rattle.sigma_spl.specs.Copies.{AreInside}
