@@ -335,5 +335,8 @@ pub fn print_c(alloc: Global, program: &Program) -> Result<Vec<u8>, NoMemory>
     ensures text { IfOk result (λ text. text.items ≡ c_text_of (plain_program program.now)) }
     ensures read_back { IfOk result (λ text. is_c_text text.items (plain_program program.now)) }
 {
-    print::<C>(alloc, program)
+    let text = print::<C>(alloc, program)?;
+    // For the proof: a word can count the bytes of a text, and so the entries of a table.
+    let _bytes = text.as_slice();
+    Ok(text)
 }
