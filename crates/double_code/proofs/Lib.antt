@@ -1,0 +1,10 @@
+pub mod Factors
+pub mod Inverses
+pub mod Nearest
+pub mod Products
+pub mod Quotients
+pub mod Reductions
+pub mod Residues
+pub mod Signed
+pub mod Spacing
+pub mod Sums

@@ -1,0 +1,5 @@
+pub mod Factors
+pub mod Products
+pub mod Reductions
+pub mod Rounding
+pub mod Sums
