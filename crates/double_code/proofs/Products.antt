@@ -1,5 +1,6 @@
 -- Products by doubles are exact but for the rounded steps, and stand for products of residues.
 use Rattle.std.proofs.Common.{◌≡◌, ℕ, ◌+◌, ◌-◌, ◌*◌, ◌^◌, ◌<◌, ◌≤◌, arith, sym, subst}
+use Rattle.std.proofs.Common.{ap, ap₂, ◌∙◌}
 use Rattle.std.proofs.Common.{mul-le-mul, mul-le-mul_right, ℤ, pos, ◌+ℤ◌, ◌-ℤ◌, ◌*ℤ◌, unsigned_abs}
 use Rattle.std.proofs.lemmas.Int.{ints, unsigned_abs-mul}
 use Rattle.std.proofs.lemmas.Nat.{pow_pos}
@@ -48,11 +49,19 @@ double_products m k e most a c some below inverse of_a of_most of_c =
     let on = near.1 in
     let left = reduced_near m k e (unsigned_abs z) h some inverse on small in
     let sum = abs_sum (h -ℤ q *ℤ pos m) (z -ℤ h) in
+    let rest = small_double (z -ℤ h) (omega arith) in
+    let remainder = small_double (h -ℤ q *ℤ pos m) (omega arith) in
+    let whole : unsigned_abs ((h -ℤ q *ℤ pos m) +ℤ (z -ℤ h)) ≤ 2 ^ 53 = omega arith in
+    let result : double_product m k e a c ≡ z -ℤ q *ℤ pos m =
+    ap₂ (λ x y. rounded (x +ℤ y)) remainder rest
+    ∙ small_double ((h -ℤ q *ℤ pos m) +ℤ (z -ℤ h)) whole
+    ∙ steps z h (q *ℤ pos m) in
+    let alike = ap unsigned_abs (result ∙ sym (steps z h (q *ℤ pos m))) in
     record {
-      rest = small_double (z -ℤ h) (omega arith);
+      rest = rest;
       quotient = quotient_whole m k e (unsigned_abs z) h some inverse on small;
-      remainder = small_double (h -ℤ q *ℤ pos m) (omega arith);
-      result = small_double (double_product m k e a c) (omega arith);
-      same = residue_same m z (double_product m k e a c) q some (steps z h (q *ℤ pos m));
+      remainder = remainder;
+      result = result;
+      same = residue_same m z (double_product m k e a c) q some result;
       bound = omega arith;
     }

@@ -1,7 +1,8 @@
 -- Numbers that differ by a multiple of m stand for one residue.
 use Rattle.std.proofs.Common.{◌≡◌, ℕ, ◌+◌, ◌-◌, ◌*◌, ◌%◌, ◌<◌, ◌≤◌, arith, sym, ap, ◌∙◌, refl, mul-le-mul_left}
-use Rattle.std.proofs.Common.{ℤ, pos, ◌+ℤ◌, ◌-ℤ◌, ◌*ℤ◌, unsigned_abs}
+use Rattle.std.proofs.Common.{ℤ, pos, negsuc, ◌+ℤ◌, ◌-ℤ◌, ◌*ℤ◌, unsigned_abs}
 use Rattle.std.proofs.lemmas.Int.{ints, int_rem_euclid_is}
+use Rattle.std.proofs.lemmas.Nat.{mod_below}
 use borrow.Author.Differences.{up, down, product_is}
 use Rattle.double_code.specs.Products.{residue}
 
@@ -19,3 +20,8 @@ residue_same m y z q some e =
     let wide' : (t + down q) * m ≡ t * m + down q * m = omega arith in
     residue_is m z (t + up q) n some (omega (arith, ints))
     ∙ sym (residue_is m y (t + down q) n some (omega (arith, ints)))
+
+-- a residue is below m
+pub residue_low : (m : ℕ) (z : ℤ) → 0 < m → residue m z < m
+residue_low m (pos n) some = mod_below n m some
+residue_low m (negsuc n) some = omega arith

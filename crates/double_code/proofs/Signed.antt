@@ -2,7 +2,9 @@
 use Rattle.std.proofs.Common.{◌≡◌, ℕ, suc, ◌+◌, ◌-◌, ◌*◌, ◌^◌, ◌<◌, ◌≤◌, arith, sym, ap, ◌∙◌, subst, refl}
 use Rattle.std.proofs.Common.{⊎_elim, ◌⊎◌, inl, inr, ℤ, pos, negsuc, neg_ℤ, ◌-ℤ◌, ◌*ℤ◌, unsigned_abs}
 use Rattle.std.proofs.lemmas.Int.{ints, unsigned_abs-mul}
+use Rattle.std.proofs.Common.{mul-le-mul_right}
 use Rattle.std.proofs.Math.Nat.{zero-mul}
+use Rattle.std.proofs.lemmas.Bool.{cases_lt}
 use Rattle.std.proofs.lemmas.Nat.{pow_pos}
 use borrow.Author.Differences.{up, down, neg_is, product_is}
 use Rattle.double_code.specs.Rounding.{nearest_of, nearest_double, nearest, rounded, with_sign, IsDouble, double_quotient}
@@ -102,12 +104,32 @@ nearest_near m k E z some low inverse =
     nothing : (k E : ℕ) → 0 < E → nearest_of (0 * k) E ≡ 0
     nothing k E some = ap (λ n. nearest_of n E) (zero-mul k ∙ sym (zero-mul E)) ∙ nearest_whole 0 E some
 
+at_most : (n d c : ℕ) → 0 < d → n < c * d → nearest_of n d ≤ c
+at_most n d c some lt =
+    let over = (nearest_is n d some).over in
+    ⊎_elim
+    (λ (far : c < nearest_of n d).
+    let up : c + 1 ≤ nearest_of n d = omega arith in
+    let more = mul-le-mul_right d up in
+    let next : (c + 1) * d ≡ c * d + d = omega arith in
+    absurd (omega arith))
+    (λ (le : nearest_of n d ≤ c). le)
+    (cases_lt c (nearest_of n d))
+
+pub nearest_small : (z : ℤ) (d c : ℕ) → 0 < d → unsigned_abs z < c * d → unsigned_abs (nearest z d) ≤ c
+nearest_small (pos n) d c some lt = at_most n d c some lt
+nearest_small (negsuc n) d c some lt =
+    let a = at_most (suc n) d c some lt in omega (arith, ints, neg_is (pos (nearest_of (suc n) d)))
+
 -- the quotient that doubles find is a whole number, as near as it can be
 pub quotient_whole : (m k e P : ℕ) (h : ℤ) → 0 < m → IsInverse m k e →
     2 ^ 53 * unsigned_abs h ≤ 2 ^ 53 * P + P → P ≤ (2 ^ 51 - 1) * m →
     double_quotient k e h ≡ nearest (h *ℤ pos k) (2 ^ e)
-quotient_whole m k e P h some inverse rounded small =
+quotient_whole m k e P h some inverse near_it small =
     let there = pow_pos e in
     let near = inverse_nearest m k e some inverse in
-    let range = range_is m k (2 ^ e) (unsigned_abs h) P some there inverse.low near rounded small in
-    constant_rounds (h *ℤ pos k) (2 ^ e) there (subst (λ x. x < 2 ^ 51 * 2 ^ e) (sym (unsigned_abs-mul h (pos k))) range)
+    let range = range_is m k (2 ^ e) (unsigned_abs h) P some there inverse.low near near_it small in
+    let within = subst (λ x. x < 2 ^ 51 * 2 ^ e) (sym (unsigned_abs-mul h (pos k))) range in
+    let whole = nearest_small (h *ℤ pos k) (2 ^ e) (2 ^ 51) there within in
+    ap rounded (constant_rounds (h *ℤ pos k) (2 ^ e) there within)
+    ∙ small_double (nearest (h *ℤ pos k) (2 ^ e)) (omega (arith, whole))

@@ -25,11 +25,11 @@ InversesAreThere = (m : ℕ) → 1 ≤ m → IsInverse m (inverse_of m) (exponen
 abbrev pub residue : ℕ → ℤ → ℕ
 residue m z = unsigned_abs (int_rem_euclid z (pos m))
 
--- a * c less a multiple of m: h is the rounded product, and a * c - h what was rounded off
+-- a * c less a multiple of m, as doubles do it: h is the rounded product, and each step after it is rounded, too
 abbrev pub double_product : ℕ → ℕ → ℕ → ℤ → ℤ → ℤ
 double_product m k e a c =
     let h = rounded (a *ℤ c) in
-    (h -ℤ double_quotient k e h *ℤ pos m) +ℤ (a *ℤ c -ℤ h)
+    rounded (rounded (h -ℤ double_quotient k e h *ℤ pos m) +ℤ rounded (a *ℤ c -ℤ h))
 
 -- what a product is at most, where the number that is multiplied is at most this
 abbrev pub product_bound : ℕ → ℕ → ℕ
@@ -40,7 +40,7 @@ pub record IsDoubleProduct (m k e most : ℕ) (a c : ℤ) : Type 0 where
   pub rest : IsDouble (a *ℤ c -ℤ rounded (a *ℤ c))
   pub quotient : double_quotient k e (rounded (a *ℤ c)) ≡ nearest (rounded (a *ℤ c) *ℤ pos k) (2 ^ e)
   pub remainder : IsDouble (rounded (a *ℤ c) -ℤ double_quotient k e (rounded (a *ℤ c)) *ℤ pos m)
-  pub result : IsDouble (double_product m k e a c)
+  pub result : double_product m k e a c ≡ a *ℤ c -ℤ double_quotient k e (rounded (a *ℤ c)) *ℤ pos m
   pub same : residue m (double_product m k e a c) ≡ residue m (a *ℤ c)
   pub bound : unsigned_abs (double_product m k e a c) ≤ product_bound m most
 

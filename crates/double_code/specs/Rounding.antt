@@ -38,8 +38,9 @@ IsDouble z = rounded z ≡ z
 abbrev pub rounding_constant : ℕ
 rounding_constant = 3 * 2 ^ 51
 
--- h * k / 2 ^ e to a whole number, as doubles do it: the rounding constant is added, in one operation that rounds, and taken off
+-- h * k / 2 ^ e to a whole number, as doubles do it: the rounding constant is added, in one operation that rounds, and
+-- taken off
 abbrev pub double_quotient : ℕ → ℕ → ℤ → ℤ
 double_quotient k e h =
-    pos (nearest_double (unsigned_abs (pos (rounding_constant * 2 ^ e) +ℤ h *ℤ pos k)) (2 ^ e))
-    -ℤ pos rounding_constant
+    rounded (pos (nearest_double (unsigned_abs (pos (rounding_constant * 2 ^ e) +ℤ h *ℤ pos k)) (2 ^ e))
+    -ℤ pos rounding_constant)
