@@ -10,7 +10,8 @@ use Rattle.double_code.proofs.Spacing.{whole_double}
 
 pub inverse_nearest : (m k e : ℕ) → 0 < m → IsInverse m k e → IsNearest (2 ^ e) m k
 inverse_nearest m k e some inverse =
-    subst (IsNearest (2 ^ e) m) (sym (inverse.near ∙ whole_double (2 ^ e) m (div_below (2 ^ e) m (2 ^ 53) some inverse.high)))
+    let small = div_below (2 ^ e) m (2 ^ 53) some inverse.high in
+    subst (IsNearest (2 ^ e) m) (sym (inverse.near ∙ whole_double (2 ^ e) m small))
     (nearest_is (2 ^ e) m some)
 
 -- 2 to the digits of m - 1 is at least m and less than twice m

@@ -1,7 +1,8 @@
 -- Quotients by m: what the rounding constant leaves is the nearest whole number, and it is as near to the true quotient
 -- as the inverse of m is to 1 / m.
 use Rattle.std.proofs.Common.{◌≡◌, ℕ, suc, ◌+◌, ◌-◌, ◌*◌, ◌^◌, ◌<◌, ◌≤◌, arith, ap, ◌∙◌, refl}
-use Rattle.std.proofs.Common.{⊎_elim, mul-le-mul, mul-le-mul_left, mul-le-mul_right, ℤ, pos, negsuc, ◌+ℤ◌, ◌-ℤ◌, unsigned_abs}
+use Rattle.std.proofs.Common.{⊎_elim, mul-le-mul, mul-le-mul_left, mul-le-mul_right, ℤ, pos, negsuc, ◌+ℤ◌, ◌-ℤ◌}
+use Rattle.std.proofs.Common.{unsigned_abs}
 use Rattle.std.proofs.lemmas.Nat.{div_below}
 use Rattle.std.proofs.lemmas.Int.{ints}
 use Rattle.std.proofs.lemmas.Bool.{cases_lt}

@@ -7,7 +7,8 @@ use Rattle.std.proofs.Math.Nat.{zero-mul}
 use Rattle.std.proofs.lemmas.Bool.{cases_lt}
 use Rattle.std.proofs.lemmas.Nat.{pow_pos}
 use borrow.Author.Differences.{up, down, neg_is, product_is}
-use Rattle.double_code.specs.Rounding.{nearest_of, nearest_double, nearest, rounded, with_sign, IsDouble, double_quotient}
+use Rattle.double_code.specs.Rounding.{nearest_of, nearest_double, nearest, rounded, with_sign, IsDouble}
+use Rattle.double_code.specs.Rounding.{double_quotient}
 use Rattle.double_code.specs.Products.{IsInverse}
 use Rattle.double_code.proofs.Inverses.{inverse_nearest}
 use Rattle.double_code.proofs.Nearest.{IsNearest, nearest_is, nearest_whole}
@@ -29,9 +30,12 @@ with_sign_parts f (negsuc n) none = ((neg_is (pos (f (suc n)))).0 ∙ sym none, 
 
 pub nearest_parts : (z : ℤ) (d : ℕ) → 0 < d →
     (up (nearest z d) ≡ nearest_of (up z) d) × (down (nearest z d) ≡ nearest_of (down z) d)
-nearest_parts z d some = with_sign_parts (λ n. nearest_of n d) z (ap (λ n. nearest_of n d) (sym (zero-mul d)) ∙ nearest_whole 0 d some)
+nearest_parts z d some =
+    with_sign_parts (λ n. nearest_of n d) z
+    (ap (λ n. nearest_of n d) (sym (zero-mul d)) ∙ nearest_whole 0 d some)
 
-pub rounded_parts : (z : ℤ) → (up (rounded z) ≡ nearest_double (up z) 1) × (down (rounded z) ≡ nearest_double (down z) 1)
+pub rounded_parts : (z : ℤ) →
+    (up (rounded z) ≡ nearest_double (up z) 1) × (down (rounded z) ≡ nearest_double (down z) 1)
 rounded_parts z = with_sign_parts (λ n. nearest_double n 1) z (small_is_double 0 (omega arith))
 
 -- whole numbers up to 2 ^ 53 are doubles

@@ -1,6 +1,7 @@
 // The laws of words that are doubles.
 
 ghost use Rattle.double_code.specs.Factors.{FactorsAreCentred};
+ghost use Rattle.double_code.specs.Laws.{DoubledIsSame};
 ghost use Rattle.double_code.specs.Products.{InversesAreThere, DoubleProducts};
 ghost use Rattle.double_code.specs.Reductions.{DoubleReductions};
 ghost use Rattle.double_code.specs.Sums.{DoubleSums};
@@ -28,4 +29,9 @@ pub fn double_products()
 /// A reduction is exact, and finds the residue.
 pub fn double_reductions()
     ensures { DoubleReductions }
+{}
+
+/// A program on doubles leaves the residues that the program leaves, whatever the order of turns.
+pub fn doubled_is_same()
+    ensures { DoubledIsSame }
 {}
