@@ -1,0 +1,9 @@
+pub mod DoubleMachine
+pub mod DoubleProgram
+pub mod Doubled
+pub mod Factors
+pub mod Laws
+pub mod Products
+pub mod Reductions
+pub mod Rounding
+pub mod Sums
