@@ -1,0 +1,14 @@
+pub mod Types
+pub mod Syntax
+pub mod Spelling
+pub mod Numbers
+pub mod Scopes
+pub mod Expressions
+pub mod Statements
+pub mod Units
+pub mod Rows
+pub mod Functions
+pub mod Procedures
+pub mod PlaceTrees
+pub mod PlaceLaws
+pub mod FunctionLaws

@@ -1,0 +1,28 @@
+// What is proved of the meaning of C, and of the texts of programs in it.
+
+ghost use Rattle.std.specs.Prelude.{◌≡◌, true};
+ghost use Rattle.std.specs.List.{list_all};
+ghost use Rattle.c_meaning.specs.Rows as expressions;
+ghost use Rattle.c_meaning.specs.Procedures as procedures;
+ghost use Rattle.c_meaning.specs.Units.{unit_text};
+ghost use Rattle.c_meaning.specs.PlaceLaws.{PlacesAreTrees, PlacesHaveValues};
+ghost use Rattle.c_meaning.specs.FunctionLaws.{FunctionsAreTrees, FunctionsCompute};
+
+/// The tables of small texts, which compilers are compared with, hold in this meaning.
+pub fn small_texts()
+    ensures expressions { list_all expressions.holds expressions.rows ≡ true }
+    ensures front { unit_text procedures.front ≡ procedures.front_lines }
+    ensures procedures { list_all procedures.holds procedures.rows ≡ true }
+{}
+
+/// The place of a load, a store or a factor: its text is a tree, which has no undefined step and the value of the place.
+pub fn places()
+    ensures trees { PlacesAreTrees }
+    ensures values { PlacesHaveValues }
+{}
+
+/// The functions of a text: their text is a tree, which computes on residues.
+pub fn functions()
+    ensures trees { FunctionsAreTrees }
+    ensures values { FunctionsCompute }
+{}
