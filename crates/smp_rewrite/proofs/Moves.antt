@@ -1,6 +1,6 @@
 -- Permutations whose width is a number of lines move whole lines.
 use Rattle.std.proofs.Common.{◌≡◌, ℕ, zero, suc, ◌+◌, ◌*◌, ◌/◌, ◌%◌, ◌<◌, arith, refl, sym, ap, ap₂, subst, ◌∙◌, List}
-use Rattle.std.proofs.Common.{◌++◌, All, tt}
+use Rattle.std.proofs.Common.{◌++◌, All}
 use Rattle.std.proofs.Common.{[], ◌∷◌, mod-lt, div-lt_iff_lt-mul}
 use Rattle.std.specs.Prelude.{slice_index}
 use Rattle.std.proofs.Math.Nat.{div-add-mod', mod-eq_of_lt}
@@ -117,7 +117,7 @@ factor_moves m n p line positive (move_after s) h = moves_lines m n line s posit
 
 factors_move : (m n p line : ℕ) → 0 < line → (fs : List PlainFactor) → All (HasShape n p line) fs →
     All (MovesByLines m n line) fs
-factors_move m n p line positive [] h = All-nil
+factors_move m n p line positive [] h = All-nil (MovesByLines m n line)
 factors_move m n p line positive (f ∷ fs) h =
     All-cons (MovesByLines m n line) f fs
     (factor_moves m n p line positive f (All-head (HasShape n p line) f fs h))

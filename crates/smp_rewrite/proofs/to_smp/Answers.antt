@@ -1,4 +1,4 @@
-use Rattle.std.proofs.Common.{◌*◌, ap, ap₂, sym, subst, ◌∙◌, []}
+use Rattle.std.proofs.Common.{◌*◌, ap, arith, ap₂, sym, subst, ◌∙◌, []}
 use Rattle.std.specs.List.{sum}
 use Rattle.matrix_meaning.specs.Parts.{forward_of}
 use Rattle.matrix_meaning.specs.declared.Request.{Request}
