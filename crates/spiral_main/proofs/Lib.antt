@@ -5,6 +5,7 @@ pub mod Good
 pub mod OneAnswer
 pub mod OnePlan
 pub mod OneSide
+pub mod OneText
 pub mod OneWork
 pub mod RightCalls
 pub mod RightFront

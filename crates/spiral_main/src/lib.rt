@@ -16,6 +16,7 @@ ghost use Rattle.tree_model.specs.Breakdown.{Breakdown};
 ghost use Rattle.tree_model.specs.Chosen.{CanDivideWhole};
 
 pub mod answers;
+pub mod letters;
 pub mod rights;
 mod run;
 
