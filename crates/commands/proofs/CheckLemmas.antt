@@ -3,8 +3,8 @@ use Rattle.std.proofs.Common.{◌≡◌, ◌<◌, ◌≤◌, ◌+◌, ℕ, List,
 use Rattle.std.proofs.Common.{subst, ◌∙◌, arith, append-nil, length-append, inl, inr}
 use Rattle.std.proofs.KnownBytes.{Appends-nil}
 use Rattle.std.specs.declared.option.Option.{Option}
-use Rattle.std.specs.Io.KnownBytes.{Appends, Consumes}
-use Rattle.io_edge.specs.Told.{IsOver}
+use Rattle.std.specs.Io.KnownBytes.{Appends}
+use Rattle.io_edge.specs.Told.{Coming, Consumes, IsOver}
 use Rattle.data_stream.specs.Parts.Rest.{GivesRest}
 use Rattle.data_stream.specs.declared.parts.RestFault.{RestFault}
 use Rattle.data_stream.specs.declared.parts.RestFault.TheVariants as rest_fault
@@ -35,13 +35,13 @@ judges request = judging (IsVerdict request)
 abbrev pub checking : Request → Work
 checking request = staged (fitting request) judges
 
-pub check_barred : (request : Request) (room : ℕ) (before out : Option (List ℕ)) (fault : GenerateFault)
+pub check_barred : (request : Request) (room : ℕ) (before : Coming) (out : Option (List ℕ)) (fault : GenerateFault)
     → IsBarred request fault → SourceMeets (checking request room) before before out out (status_of_generate fault)
 check_barred request room before out fault barred =
     stage_refused (fitting request) judges room before out (status_of_generate fault) (λ _. (fault, barred, refl)) (generate_refusal fault)
 
 -- the rest can't be judged
-unread_told : (request : Request) (room : ℕ) (before after out : Option (List ℕ)) (read : List ℕ) (fault : RestFault)
+unread_told : (request : Request) (room : ℕ) (before after : Coming) (out : Option (List ℕ)) (read : List ℕ) (fault : RestFault)
     → certificate_limit ≤ room → Consumes before after read
     → GivesRest certificate_limit read (IsOver after) (Err fault)
     → SourceMeets (judges request room) before after out out (status_of_rest fault)
@@ -66,7 +66,7 @@ unread_told request room before after out read rest_fault.NoMemory fits consumed
     let few : length read ≤ room + 1 = omega (arith, fits, given) in
     told_nothing (judges request room) before after out read consumed few
 
-pub check_unread : (request : Request) (room : ℕ) (before after out : Option (List ℕ)) (read : List ℕ)
+pub check_unread : (request : Request) (room : ℕ) (before after : Coming) (out : Option (List ℕ)) (read : List ℕ)
     (fault : RestFault)
     → certificate_limit ≤ room → IsAdmitted request → Consumes before after read
     → GivesRest certificate_limit read (IsOver after) (Err fault)
@@ -76,7 +76,7 @@ check_unread request room before after out read fault fits there consumed given 
     (all_few room) (unread_told request room before after out read fault fits consumed given)
 
 -- the rest of the input is a text with this verdict
-pub record IsFound (request : Request) (before after : Option (List ℕ)) (found : Verdict) : Type 0 where
+pub record IsFound (request : Request) (before after : Coming) (found : Verdict) : Type 0 where
   pub read : List ℕ
   pub consumed : Consumes before after read
   pub end : IsOver after
@@ -84,7 +84,7 @@ pub record IsFound (request : Request) (before after : Option (List ℕ)) (found
   pub judged : IsVerdict request read found
 
 -- as it was read and found
-pub found_of : (request context : Request) (before after : Option (List ℕ)) (text : Vec ℕ Global) (seen : List ℕ)
+pub found_of : (request context : Request) (before after : Coming) (text : Vec ℕ Global) (seen : List ℕ)
     (found other : Verdict)
     → (read : List ℕ) × Consumes before after read × GivesRest certificate_limit read (IsOver after) (Ok text)
     → context ≡ request → seen ≡ text.items → other ≡ found → IsVerdict context seen other
@@ -110,7 +110,7 @@ judged_meets request room bytes left out out' found few judged w =
     (λ d. (verdict_text found, inr (few, (found, judged, refl, refl)), w)) (λ e. cc) (λ e. cc)
 
 -- a rest that was judged
-pub check_judged : (request : Request) (room : ℕ) (before after out out' : Option (List ℕ)) (found : Verdict)
+pub check_judged : (request : Request) (room : ℕ) (before after : Coming) (out out' : Option (List ℕ)) (found : Verdict)
     → certificate_limit ≤ room → IsAdmitted request → IsFound request before after found
     → Appends out out' (verdict_text found)
     → SourceMeets (checking request room) before after out out' (status_of_verdict found)
@@ -129,7 +129,7 @@ check_judged request room before after out out' found fits there f w =
     })
 
 -- a rest that was judged right, and the line that says so was not written whole
-pub check_cut : (request : Request) (room : ℕ) (before after out out' : Option (List ℕ)) (cost : ℕ)
+pub check_cut : (request : Request) (room : ℕ) (before after : Coming) (out out' : Option (List ℕ)) (cost : ℕ)
     → certificate_limit ≤ room → IsAdmitted request → IsFound request before after (verdict.Least cost)
     → AppendsPrefix out out' (least_line cost) → SourceMeets (checking request room) before after out out' WriteFault
 check_cut request room before after out out' cost fits there f w =

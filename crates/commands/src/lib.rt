@@ -73,11 +73,11 @@ fn perform_for<I: Source, O: Sink>(
     requires turns { NamesNoStranger command.now request.now.procs }
     requires line { feed.old.taken ≤ 257 }
     ensures told { SourceMeets (work_for command.now request.now (limit - feed.old.taken))
-        (to_come feed.old (I.left input.old)) (to_come feed.new (I.left input.new))
+        (to_come feed.old (I.told input.old)) (to_come feed.new (I.told input.new))
         (O.taken output.old) (O.taken output.new) (status_of result) }
     ensures end { status_of result ≡ Status.Success
         → reads_rest (Command.ByRequest command.now) ≡ true
-        → IsOver (to_come feed.new (I.left input.new)) }
+        → IsOver (to_come feed.new (I.told input.new)) }
     ensures ends { EndsCleanly (status_of result) feed.new.held
         (I.faults input.old) (I.faults input.new) (O.faults output.old) (O.faults output.new)
         (O.taken output.old) (O.taken output.new) }
@@ -100,11 +100,11 @@ pub fn perform<I: Source, O: Sink>(
 ) -> Result<(), Status>
     requires fresh { feed.old.taken ≡ 0 }
     ensures told { SourceMeets (outcomes_by_request command.now)
-        (to_come feed.old (I.left input.old)) (to_come feed.new (I.left input.new))
+        (to_come feed.old (I.told input.old)) (to_come feed.new (I.told input.new))
         (O.taken output.old) (O.taken output.new) (status_of result) }
     ensures end { status_of result ≡ Status.Success
         → reads_rest (Command.ByRequest command.now) ≡ true
-        → IsOver (to_come feed.new (I.left input.new)) }
+        → IsOver (to_come feed.new (I.told input.new)) }
     ensures ends { EndsCleanly (status_of result) feed.new.held
         (I.faults input.old) (I.faults input.new) (O.faults output.old) (O.faults output.new)
         (O.taken output.old) (O.taken output.new) }

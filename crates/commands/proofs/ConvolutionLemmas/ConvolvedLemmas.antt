@@ -7,7 +7,7 @@ use Rattle.std.proofs.lemmas.List.{length-drop}
 use Rattle.std.specs.List.{All}
 use Rattle.std.specs.declared.option.Option.{Option}
 use Rattle.std.specs.Io.KnownBytes.{Appends}
-use Rattle.io_edge.specs.Told.{IsOver}
+use Rattle.io_edge.specs.Told.{Coming, IsOver}
 use Rattle.matrix_meaning.specs.Convolution.{convolution}
 use Rattle.generate.specs.ConvPlanned.{IsConvPlanned}
 use Rattle.generate_faults.specs.declared.conv_fault.ConvFault.{ConvFault}
@@ -110,7 +110,7 @@ module _ (wants : Wants) (size modulus : ℕ) (list : WantsList wants size)
       (Appends-nil out) (Err fault) (list.lacks (Err fault)) list.on s seen (nothing_written out (λ x. []) fault other)
       (λ short. ends (λ e. short (ap failed e))) (λ ahead last e. absurd (none_last ahead last e))
 
-  pub list_lacking : (old new : Fed) (before after out : Option (List ℕ)) (fault : StreamFault)
+  pub list_lacking : (old new : Fed) (before after : Coming) (out : Option (List ℕ)) (fault : StreamFault)
       → old.taken ≤ limit → (fault ≢ stream.TooLong → new.taken ≤ limit) →
       HasNoVector size modulus old new before after fault
       → SourceMeets (mapping wants size modulus (by_first IsText) (limit - old.taken)) before after out out
@@ -131,7 +131,7 @@ module _ (wants : Wants) (size modulus : ℕ) (list : WantsList wants size)
             (r.answers start rest goes));
       }
 
-list_told : (code : Bool) (plan : Planned) (old new : Fed) (before after out : Option (List ℕ)) (fault : StreamFault)
+list_told : (code : Bool) (plan : Planned) (old new : Fed) (before after : Coming) (out : Option (List ℕ)) (fault : StreamFault)
     → old.taken ≤ limit → (fault ≢ stream.TooLong → new.taken ≤ limit) →
     HasNoVector plan.request.size plan.request.modulus old new before after fault
     → SourceMeets (list_work code plan (limit - old.taken)) before after out out (status_of_fault fault)
@@ -145,7 +145,7 @@ list_few false plan room = all_few room
 list_few true plan room = all_few room
 
 pub convolves_lacking : (code : Bool) (plan : Planned) (request : Request) (old new : Fed)
-    (before after out : Option (List ℕ)) (fault : StreamFault)
+    (before after : Coming) (out : Option (List ℕ)) (fault : StreamFault)
     → conv_chosen request (Ok plan) → old.taken ≤ limit → (fault ≢ stream.TooLong → new.taken ≤ limit)
     → HasNoVector plan.request.size plan.request.modulus old new before after fault
     → SourceMeets (work_by_list code request (limit - old.taken)) before after out out (status_of_fault fault)
@@ -156,7 +156,7 @@ convolves_lacking code plan request old new before after out fault chosen start 
 -- The listing
 
 -- all of it is written
-pub convolves_listing : (request : Request) (cut : Cut) (old new : Fed) (before after out out' : Option (List ℕ))
+pub convolves_listing : (request : Request) (cut : Cut) (old new : Fed) (before after : Coming) (out out' : Option (List ℕ))
     (h listing : List ℕ) (program : Program)
     → cut.size ≡ request.size → HasCome request.modulus cut old new before after (h ∷ []) → old.taken ≤ limit
     → new.taken ≤ limit → (cut.ended ≡ true → IsOver after)
@@ -188,7 +188,7 @@ convolves_listing request cut old new before after out out' h listing program si
     })
 
 -- a front of it is written
-pub convolves_cut : (request : Request) (cut : Cut) (old new : Fed) (before after out out' : Option (List ℕ))
+pub convolves_cut : (request : Request) (cut : Cut) (old new : Fed) (before after : Coming) (out out' : Option (List ℕ))
     (h listing : List ℕ) (program : Program)
     → cut.size ≡ request.size → 0 < request.size → HasCome request.modulus cut old new before after (h ∷ [])
     → new.taken ≤ limit → (cut.ended ≡ true → IsOver after)
@@ -253,7 +253,7 @@ convolved_lines request h program code turns later made same some there whole =
     later_lines request.size request.modulus f g each some (length whole.0 / request.size) whole.0 h later (div-mul-le_self (length whole.0) request.size) whole.1
 
 run_told : {S : Type 0} (schedule : Plan) (request : Request) (code : Code) (old new : Fed)
-    (before after out out' : Option (List ℕ)) (h : List ℕ) (program : Program) (leaves : List ℕ → S) (first last : S)
+    (before after : Coming) (out out' : Option (List ℕ)) (h : List ℕ) (program : Program) (leaves : List ℕ → S) (first last : S)
     (result : Result (Unit {0}) StreamFault)
     → (made : IsListProgram request h program) → code ≡ code_of program → request.procs ≡ 1 → 0 < request.modulus →
     HasNoStranger schedule 1 → old.taken ≤ limit → (result ≢ Err stream.TooLong → new.taken ≤ limit)
@@ -288,7 +288,7 @@ run_told schedule request code old new before after out out' h program leaves fi
     }
 
 -- the list has come, by what the machine's code says of the modulus
-pub list_come : (request : Request) (code : Code) (cut : Cut) (old now : Fed) (before mid : Option (List ℕ))
+pub list_come : (request : Request) (code : Code) (cut : Cut) (old now : Fed) (before mid : Coming)
     (h : List ℕ) (program : Program)
     → IsListProgram request h program → code ≡ code_of program →
     HasCome request.modulus cut old now before mid (h ∷ []) → HasCome code.modulus cut old now before mid (h ∷ [])
@@ -297,7 +297,7 @@ list_come request code cut old now before mid h program made same come =
 
 -- the machine runs after the list
 pub convolves_run : {S : Type 0} (schedule : Plan) (request : Request) (code : Code) (cut : Cut) (old now new : Fed)
-    (before mid after out out' : Option (List ℕ)) (h : List ℕ) (program : Program) (leaves : List ℕ → S)
+    (before mid after : Coming) (out out' : Option (List ℕ)) (h : List ℕ) (program : Program) (leaves : List ℕ → S)
     (first last : S)
     (result : Result (Unit {0}) StreamFault)
     → IsListProgram request h program → code ≡ code_of program → cut.size ≡ request.size → request.procs ≡ 1 →

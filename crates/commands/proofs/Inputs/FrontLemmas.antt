@@ -2,10 +2,10 @@
 use Rattle.std.proofs.Common.{◌≡◌, ◌≢◌, ◌<◌, ◌≤◌, ◌+◌, ◌-◌, ℕ, true, false, List, [], ◌++◌, Ok, Err, Result, nat_le}
 use Rattle.std.proofs.Common.{length, cond, refl, sym, ap, subst, ◌∙◌, arith, append_assoc, length-append, inl, inr}
 use Rattle.std.proofs.lemmas.Grind.{common_steps}
-use Rattle.std.proofs.KnownBytes.{Appends-nil, Consumes-trans}
+use Rattle.std.proofs.KnownBytes.{Appends-nil}
+use Rattle.io_edge.proofs.ToldLemmas.{Consumes-trans, over_left, over_rest}
 use Rattle.std.specs.declared.option.Option.{Option}
-use Rattle.std.specs.Io.KnownBytes.{Consumes}
-use Rattle.io_edge.specs.Told.{IsOver}
+use Rattle.io_edge.specs.Told.{Coming, Consumes, IsOver}
 use Rattle.io_edge.specs.Feed.{limit}
 use Rattle.spiral_words.specs.Statuses.Status.{IsDefined}
 use Rattle.spiral_words.specs.declared.statuses.status.Status.{Status}
@@ -17,7 +17,6 @@ use Rattle.commands.specs.Input.Refusals.{IsRefusal}
 use Rattle.commands.specs.Input.Stage.{Stage, HasGiven}
 use Rattle.commands.specs.Equations.Front.{Front, MayGoOn, HasEnded, Work, taken_from, room_behind, ordered, by_front}
 use Rattle.commands.proofs.Inputs.InputLemmas.{none_cut}
-use Rattle.io_edge.proofs.ToldLemmas.{over_left, over_rest}
 
 -- What holds of each front
 
@@ -120,7 +119,7 @@ front_meets {A} front is orders work bytes read rest taken value left out out' s
     }
 
 pub front_told : {A : Type 0} (front : Front) → IsFront front →
-    (orders : List ℕ → Stage A) (work : A → Work) (before mid left : Option (List ℕ)) (taken : ℕ) (value : A)
+    (orders : List ℕ → Stage A) (work : A → Work) (before mid left : Coming) (taken : ℕ) (value : A)
     (out out' : Option (List ℕ)) (status : Status)
     → Asks front orders before mid taken (Ok value) → (work value (limit - taken)).most ≤ limit - taken + 1
     → SourceMeets (work value (limit - taken)) mid left out out' status
@@ -144,7 +143,7 @@ front_told front is orders work before mid left taken value out out' status a mo
 -- The front orders nothing
 
 pub front_refused : {A : Type 0} (front : Front) (orders : List ℕ → Stage A) (work : A → Work)
-    (before left out : Option (List ℕ)) (taken : ℕ) (status : Status)
+    (before left : Coming) (out : Option (List ℕ)) (taken : ℕ) (status : Status)
     → Asks front orders before left taken (Err status) → status ≢ WriteFault
     → SourceMeets (by_front front orders work) before left out out status
 front_refused front orders work before left out taken status a w = record {
@@ -161,7 +160,7 @@ front_refused front orders work before left out taken status a w = record {
 -- What a call for the front answers
 
 -- the front can't be read
-pub asks_read_fault : {A : Type 0} (front : Front) (orders : List ℕ → Stage A) (before after : Option (List ℕ))
+pub asks_read_fault : {A : Type 0} (front : Front) (orders : List ℕ → Stage A) (before after : Coming)
     (taken : ℕ) (read : List ℕ)
     → Consumes before after read → length read ≤ limit → MayGoOn front read
     → Asks front orders before after taken (Err ReadFault)
@@ -169,7 +168,7 @@ asks_read_fault front orders before after taken read consumed few part =
     record { read = read; consumed = consumed; few = few; asks = (λ d. absurd (d.read refl), λ _. part) }
 
 -- it is too long
-pub asks_too_long : {A : Type 0} (front : Front) (orders : List ℕ → Stage A) (before after : Option (List ℕ))
+pub asks_too_long : {A : Type 0} (front : Front) (orders : List ℕ → Stage A) (before after : Coming)
     (taken : ℕ) (read : List ℕ)
     → Consumes before after read → length read ≤ limit
     → ((more : List ℕ) → front.most < length (front.first (read ++ more)))
@@ -182,7 +181,7 @@ asks_too_long front orders before after taken read consumed few long = record {
 }
 
 -- its text orders nothing
-pub asks_refused : {A : Type 0} (front : Front) (orders : List ℕ → Stage A) (before after : Option (List ℕ)) (taken : ℕ)
+pub asks_refused : {A : Type 0} (front : Front) (orders : List ℕ → Stage A) (before after : Coming) (taken : ℕ)
     (read text : List ℕ) (status : Status)
     → Consumes before after read → length read ≤ limit → IsWhole front read (IsOver after) text
     → length text ≤ front.most → (IsDefined status → orders text (Err status)) → status ≢ ReadFault
@@ -200,7 +199,7 @@ asks_refused front orders before after taken read text status consumed few whole
 }
 
 -- its text orders a value
-pub asks_value : {A : Type 0} (front : Front) (orders : List ℕ → Stage A) (before after : Option (List ℕ)) (taken : ℕ)
+pub asks_value : {A : Type 0} (front : Front) (orders : List ℕ → Stage A) (before after : Coming) (taken : ℕ)
     (read text : List ℕ) (value : A)
     → Consumes before after read → length read ≤ limit → taken ≡ length read
     → IsWhole front read (IsOver after) text → length text ≤ front.most → orders text (Ok value)
@@ -221,7 +220,7 @@ asks_value front orders before after taken read text value consumed few count wh
 
 module _ {A : Type 0} (front : Front) (orders : List ℕ → Stage A) (work : A → Work) where
   -- its text orders nothing
-  pub text_refused : (before after out : Option (List ℕ)) (taken : ℕ) (read text : List ℕ) (status : Status)
+  pub text_refused : (before after : Coming) (out : Option (List ℕ)) (taken : ℕ) (read text : List ℕ) (status : Status)
       → Consumes before after read → length read ≤ limit → IsWhole front read (IsOver after) text
       → length text ≤ front.most → (IsDefined status → orders text (Err status)) → IsRefusal status
       → SourceMeets (by_front front orders work) before after out out status
@@ -231,7 +230,7 @@ module _ {A : Type 0} (front : Front) (orders : List ℕ → Stage A) (work : A 
       refusal.write
 
   -- its text orders a value, and after it this is right for the value's work
-  pub text_told : IsFront front → (before mid left out out' : Option (List ℕ)) (taken : ℕ) (read text : List ℕ)
+  pub text_told : IsFront front → (before mid left : Coming) (out out' : Option (List ℕ)) (taken : ℕ) (read text : List ℕ)
       (value : A) (status : Status)
       → Consumes before mid read → length read ≤ limit → taken ≡ length read → IsWhole front read (IsOver mid) text
       → length text ≤ front.most → orders text (Ok value)

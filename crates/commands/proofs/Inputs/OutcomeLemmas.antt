@@ -1,8 +1,10 @@
 -- Status and output that are right for a call.
 use Rattle.std.proofs.Common.{◌≡◌, ◌≢◌, ◌≤◌, ◌+◌, ℕ, List, [], ◌++◌, arith, length, refl}
-use Rattle.std.proofs.KnownBytes.{Appends-nil, Consumes-nil}
+use Rattle.std.proofs.KnownBytes.{Appends-nil}
+use Rattle.io_edge.proofs.ToldLemmas.{Consumes-nil}
 use Rattle.std.specs.declared.option.Option.{Option}
-use Rattle.std.specs.Io.KnownBytes.{Appends, Consumes}
+use Rattle.std.specs.Io.KnownBytes.{Appends}
+use Rattle.io_edge.specs.Told.{Coming, Consumes}
 use Rattle.io_edge.specs.Taken.{AppendsPrefix}
 use Rattle.spiral_words.specs.Statuses.Status.{IsDefined}
 use Rattle.spiral_words.specs.declared.statuses.status.Status.{Status}
@@ -48,14 +50,14 @@ cut_meets outcomes read left text out out' wrote right = record {
 }
 
 -- nothing was read
-pub unread_meets : (outcomes : Outcomes) (before out out' : Option (List ℕ)) (status : Status)
+pub unread_meets : (outcomes : Outcomes) (before : Coming) (out out' : Option (List ℕ)) (status : Status)
     → ((bytes : List ℕ) → Meets outcomes bytes bytes out out' status)
     → SourceMeets outcomes before before out out' status
 unread_meets outcomes before out out' status p =
     record { read = []; consumed = Consumes-nil before; few = omega arith; meets = λ left tells. p left }
 
 -- want of memory
-pub told_nothing : (outcomes : Outcomes) (before after out : Option (List ℕ)) (read : List ℕ)
+pub told_nothing : (outcomes : Outcomes) (before after : Coming) (out : Option (List ℕ)) (read : List ℕ)
     → Consumes before after read → length read ≤ outcomes.most
     → SourceMeets outcomes before after out out NoMemory
 told_nothing outcomes before after out read consumed few = record {
@@ -65,6 +67,6 @@ told_nothing outcomes before after out read consumed few = record {
   meets = λ left tells. meets_nothing outcomes (read ++ left) left out NoMemory (λ d. absurd (d.memory refl)) (λ e. cc) (λ e. cc);
 }
 
-pub unread_nothing : (outcomes : Outcomes) (before out : Option (List ℕ))
+pub unread_nothing : (outcomes : Outcomes) (before : Coming) (out : Option (List ℕ))
     → SourceMeets outcomes before before out out NoMemory
 unread_nothing outcomes before out = told_nothing outcomes before before out [] (Consumes-nil before) (omega arith)

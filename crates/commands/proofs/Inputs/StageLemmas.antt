@@ -1,6 +1,7 @@
 -- What a call comes to by a stage after a front.
 use Rattle.std.proofs.Common.{ℕ, ◌≤◌, ◌+◌, List, ◌++◌, Ok, Err, arith, length, refl, inl, inr}
 use Rattle.std.specs.declared.option.Option.{Option}
+use Rattle.io_edge.specs.Told.{Coming}
 use Rattle.spiral_words.specs.Statuses.Status.{IsDefined}
 use Rattle.spiral_words.specs.declared.statuses.status.Status.{Status}
 use Rattle.commands.specs.Input.Outcomes.{Meets, SourceMeets}
@@ -17,7 +18,7 @@ pub stage_meets_nothing : {A : Type 0} (stage : Stage A) (work : A → Work) (ro
 stage_meets_nothing stage work room bytes left out status refused r =
     meets_nothing (staged stage work room) bytes left out status (λ d. inl (refused d, refl)) r.read r.write
 
-pub stage_refused : {A : Type 0} (stage : Stage A) (work : A → Work) (room : ℕ) (before out : Option (List ℕ))
+pub stage_refused : {A : Type 0} (stage : Stage A) (work : A → Work) (room : ℕ) (before : Coming) (out : Option (List ℕ))
     (status : Status)
     → (IsDefined status → stage (Err status)) → IsRefusal status
     → SourceMeets (staged stage work room) before before out out status
@@ -36,7 +37,7 @@ stage_meets stage work room value bytes left out out' status gives p = record {
 }
 
 pub stage_told : {A : Type 0} (stage : Stage A) (work : A → Work) (room : ℕ) (value : A)
-    (before left out out' : Option (List ℕ)) (status : Status)
+    (before left : Coming) (out out' : Option (List ℕ)) (status : Status)
     → stage (Ok value) → (work value room).most ≤ room + 1 → SourceMeets (work value room) before left out out' status
     → SourceMeets (staged stage work room) before left out out' status
 stage_told stage work room value before left out out' status gives most p = record {

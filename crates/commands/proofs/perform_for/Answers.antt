@@ -10,7 +10,7 @@ use Rattle.commands.proofs.perform_for.Goals as goal
 
 pub returns-in-Writes-clause-told : goal.returns-in-Writes-clause-told
 returns-in-Writes-clause-told g c =
-    let start = to_come c.args.feed.now (g.I.Source.left c.args.input.now) in
+    let start = to_come c.args.feed.now (g.I.Source.told c.args.input.now) in
     let out = g.O.Sink.taken c.args.output.now in
     let written = g.O.Sink.taken c.write_text.new.output in
     let room = limit - c.args.feed.now.taken in
@@ -20,8 +20,8 @@ returns-in-Writes-clause-told g c =
 
 pub returns-in-Judges-clause-told : goal.returns-in-Judges-clause-told
 returns-in-Judges-clause-told g c =
-    let start = to_come c.args.feed.now (g.I.Source.left c.args.input.now) in
-    let end = to_come c.check.new.feed (g.I.Source.left c.check.new.input) in
+    let start = to_come c.args.feed.now (g.I.Source.told c.args.input.now) in
+    let end = to_come c.check.new.feed (g.I.Source.told c.check.new.input) in
     let out = g.O.Sink.taken c.args.output.now in
     let written = g.O.Sink.taken c.check.new.output in
     let room = limit - c.args.feed.now.taken in

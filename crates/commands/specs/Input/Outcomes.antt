@@ -1,9 +1,9 @@
 -- What is right for a call, and what a fault of the outside leaves of it.
 use Rattle.std.specs.Prelude.{◌≡◌, ◌≤◌, ℕ, List, [], ◌++◌, length}
 use Rattle.std.specs.declared.option.Option.{Option}
-use Rattle.std.specs.Io.KnownBytes.{Appends, Consumes}
+use Rattle.std.specs.Io.KnownBytes.{Appends}
+use Rattle.io_edge.specs.Told.{Coming, Consumes, Tells}
 use Rattle.io_edge.specs.Taken.{AppendsPrefix}
-use Rattle.io_edge.specs.Told.{Tells}
 use Rattle.spiral_words.specs.Statuses.Status.{IsDefined}
 use Rattle.spiral_words.specs.declared.statuses.status.Status.{Status}
 use Rattle.spiral_words.specs.declared.statuses.status.Status.TheVariants.{ReadFault, WriteFault}
@@ -20,7 +20,7 @@ pub record Outcomes : Type 1 where
   pub cut : (read left text taken : List ℕ) → Type 0
 
 -- status and output are right, by all the bytes that were to come and by those that are left of them
-pub record Meets (outcomes : Outcomes) (bytes left : List ℕ) (before after : Option (List ℕ))
+pub record Meets (outcomes : Outcomes) (bytes left : List ℕ) (before after : Coming)
     (status : Status) : Type 0 where
   -- where nothing failed, they are an answer
   pub answer : IsDefined status → (text : List ℕ) × outcomes.answer bytes status text × Appends before after text
@@ -33,7 +33,7 @@ pub record Meets (outcomes : Outcomes) (bytes left : List ℕ) (before after : O
 
 -- These bytes came, and with all that may be left status and output are right. A source that does not tell its bytes
 -- may have any left
-pub record SourceMeets (outcomes : Outcomes) (source source' before after : Option (List ℕ))
+pub record SourceMeets (outcomes : Outcomes) (source source' before after : Coming)
     (status : Status) : Type 0 where
   pub read : List ℕ
   pub consumed : Consumes source source' read
