@@ -1,6 +1,6 @@
 -- Bytes that are given, held and left.
 use Rattle.std.proofs.Common.{◌≡◌, Bool, true, false, ℕ, List, [], ◌∷◌, ◌++◌, None, Some, refl, sym, ap, subst, ◌∙◌}
-use Rattle.std.proofs.Common.{append_assoc, append-nil, cc}
+use Rattle.std.proofs.Common.{append_assoc, append-nil}
 use Rattle.std.specs.declared.option.Option.{Option}
 use Rattle.std.specs.Io.KnownBytes as known_bytes
 use Rattle.std.specs.Io.KnownBytes.{prepend_known}
@@ -71,3 +71,22 @@ gives_held before after old new read consumed none = record {
       consumed.left);
   ended = consumed.ended;
 }
+
+-- a source of which nothing was read
+pub Gives-nil : (told : Told) → Gives told told []
+Gives-nil told = record {
+  given = sym (append-nil told.given);
+  left = bytes.Consumes-nil (rest_of told);
+  ended = λ ends. ends;
+}
+
+told_after : (rest : Option (List ℕ)) (bytes read : List ℕ) → known_bytes.Consumes (Some bytes) rest read
+    → (left : List ℕ) × (rest ≡ Some left) × (bytes ≡ read ++ left)
+told_after None bytes read consumed = absurd consumed
+told_after (Some left) bytes read consumed = (left, refl, consumed)
+
+-- a source that tells its bytes tells what is left of them
+pub gives_told : (before after : Told) (bytes read : List ℕ) → rest_of before ≡ Some bytes → Gives before after read
+    → (left : List ℕ) × (rest_of after ≡ Some left) × (bytes ≡ read ++ left)
+gives_told before after bytes read tells gives = told_after (rest_of after) bytes read
+    (subst (λ k. known_bytes.Consumes k (rest_of after) read) tells gives.left)

@@ -14,6 +14,7 @@ use Rattle.commands.specs.Input.Commands.{admitted, first_stranger}
 use Rattle.commands.proofs.FormulaLemmas.Programs.{formula_programs_are_code}
 use Rattle.commands.proofs.FormulaLemmas.Shaped.{written_few, written_shaped}
 use Rattle.commands.proofs.GoodPrograms.{conv_programs_convolve}
+use Rattle.io_edge.specs.Told.{Told}
 use Rattle.listing_text.specs.Listing.{listing_of}
 use Rattle.matrix_meaning.specs.Convolution.{convolution}
 use Rattle.matrix_meaning.specs.declared.Request.{Request}
@@ -123,11 +124,11 @@ right_answer words bytes left before after status accounts well = record {
 }
 
 pub formulas_are_right : FormulasAreRight
-formulas_are_right words bytes left before after status told well =
-    let rest = told_input words bytes left before after status told in
+formulas_are_right words bytes input input' before after status tells told well =
+    let rest = told_input words bytes input input' before after status tells told in
     right_answer words bytes rest.0 before after status rest.2 well
 
-pub formula_run_is_right : (words : List (List ℕ)) (input input' before after : Option (List ℕ)) (status : Status)
+pub formula_run_is_right : (words : List (List ℕ)) (input input' : Told) (before after : Option (List ℕ)) (status : Status)
     → AccountsFor words input input' before after status → IsDefined status
     → IsRightFormulaRun words input input' before after status
 formula_run_is_right words input input' before after status told well =

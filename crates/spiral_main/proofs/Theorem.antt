@@ -21,6 +21,7 @@ use Rattle.icode.specs.Limits.{IsWithinLimits}
 use Rattle.icode.specs.Plain.{PlainProgram}
 use Rattle.icode.specs.Machine.{IsApart, padded, results, words_at}
 use Rattle.icode.specs.declared.event.Event.{Event}
+use Rattle.io_edge.specs.Told.{Told}
 use Rattle.listing_text.specs.Listing.{listing_of}
 use Rattle.listing_text.specs.Texts.{is_listing}
 use Rattle.matrix_meaning.specs.Asked.{asked_of}
@@ -147,25 +148,25 @@ right_answer words bytes left before after status accounts well = record {
 }
 
 pub program_is_right : TheProgramIsRight
-program_is_right words bytes left before after status told well =
-    let rest = told_input words bytes left before after status told in
+program_is_right words bytes input input' before after status tells told well =
+    let rest = told_input words bytes input input' before after status tells told in
     right_answer words bytes rest.0 before after status rest.2 well
 
 -- what was read of any input has what the bytes of every told one have
-pub what_was_read : (P : List ℕ → Type 0) (words : List (List ℕ)) (input input' before after : Option (List ℕ))
-    (status : Status) → AccountsFor words input input' before after status
+pub what_was_read : (P : List ℕ → Type 0) (words : List (List ℕ)) (input input' : Told)
+    (before after : Option (List ℕ)) (status : Status) → AccountsFor words input input' before after status
     → ((bytes left : List ℕ) → Accounts words bytes left before after status → P bytes)
     → OfWhatWasRead P input input'
 what_was_read P words input input' before after status told has =
     let read : List ℕ = told.used ++ told.held in
     record {
       read = read;
-      consumed = told.consumed;
+      gave = told.gave;
       right = λ left tells.
           has (read ++ left) left (told_left words input input' before after status told left tells);
     }
 
-pub any_run_is_right : (words : List (List ℕ)) (input input' before after : Option (List ℕ)) (status : Status)
+pub any_run_is_right : (words : List (List ℕ)) (input input' : Told) (before after : Option (List ℕ)) (status : Status)
     → AccountsFor words input input' before after status → IsDefined status
     → IsRightRun words input input' before after status
 any_run_is_right words input input' before after status told well =

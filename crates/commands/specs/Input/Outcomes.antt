@@ -2,7 +2,7 @@
 use Rattle.std.specs.Prelude.{◌≡◌, ◌≤◌, ℕ, List, [], ◌++◌, length}
 use Rattle.std.specs.declared.option.Option.{Option}
 use Rattle.std.specs.Io.KnownBytes.{Appends}
-use Rattle.io_edge.specs.Told.{Coming, Consumes, Tells}
+use Rattle.io_edge.specs.Told.{Coming, Consumes, Tells, known}
 use Rattle.io_edge.specs.Taken.{AppendsPrefix}
 use Rattle.spiral_words.specs.Statuses.Status.{IsDefined}
 use Rattle.spiral_words.specs.declared.statuses.status.Status.{Status}
@@ -20,7 +20,7 @@ pub record Outcomes : Type 1 where
   pub cut : (read left text taken : List ℕ) → Type 0
 
 -- status and output are right, by all the bytes that were to come and by those that are left of them
-pub record Meets (outcomes : Outcomes) (bytes left : List ℕ) (before after : Coming)
+pub record Meets (outcomes : Outcomes) (bytes left : List ℕ) (before after : Option (List ℕ))
     (status : Status) : Type 0 where
   -- where nothing failed, they are an answer
   pub answer : IsDefined status → (text : List ℕ) × outcomes.answer bytes status text × Appends before after text
@@ -33,9 +33,9 @@ pub record Meets (outcomes : Outcomes) (bytes left : List ℕ) (before after : C
 
 -- These bytes came, and with all that may be left status and output are right. A source that does not tell its bytes
 -- may have any left
-pub record SourceMeets (outcomes : Outcomes) (source source' before after : Coming)
+pub record SourceMeets (outcomes : Outcomes) (source source' : Coming) (before after : Option (List ℕ))
     (status : Status) : Type 0 where
   pub read : List ℕ
   pub consumed : Consumes source source' read
   pub few : length read ≤ outcomes.most
-  pub meets : (left : List ℕ) → Tells source' left → Meets outcomes (read ++ left) left before after status
+  pub meets : (left : List ℕ) → Tells (known source') left → Meets outcomes (read ++ left) left before after status
