@@ -52,7 +52,7 @@ unread_told request room before after out read rest_fault.TooLong fits consumed 
   meets = λ rest tells.
       let count : length (read ++ rest) ≡ length read + length rest = length-append read rest in
       let long : certificate_limit < length (read ++ rest) = omega (arith, count, given) in
-      meets_nothing (judges request room) (read ++ rest) rest out (status_of_rest rest_fault.TooLong)
+      meets_nothing (judges request room) (read ++ rest) rest after.told.ended out (status_of_rest rest_fault.TooLong)
       (λ d. inl (long, refl, refl)) (λ e. cc) (λ e. cc);
 }
 unread_told request room before after out read rest_fault.ReadFault fits consumed given = record {
@@ -60,7 +60,7 @@ unread_told request room before after out read rest_fault.ReadFault fits consume
   consumed = consumed;
   few = let few : length read ≤ room + 1 = omega (arith, fits, given) in few;
   meets = λ rest tells.
-      broken_meets (judges request room) (read ++ rest) rest out out (read, [], refl, (given, refl), Appends-nil out);
+      broken_meets (judges request room) (read ++ rest) rest after.told.ended out out (read, [], refl, (given, refl), Appends-nil out);
 }
 unread_told request room before after out read rest_fault.NoMemory fits consumed given =
     let few : length read ≤ room + 1 = omega (arith, fits, given) in
@@ -99,14 +99,14 @@ found_of request context before after text seen found other (read, consumed, (sa
       (subst (λ (v : Verdict). IsVerdict request seen v) e (subst (λ (r : Request). IsVerdict r seen other) c judged));
 }
 
-judged_meets : (request : Request) (room : ℕ) (bytes left : List ℕ) (out out' : Option (List ℕ)) (found : Verdict)
+judged_meets : (request : Request) (room : ℕ) (bytes left : List ℕ) (ended : Bool) (out out' : Option (List ℕ)) (found : Verdict)
     → length bytes ≤ certificate_limit → IsVerdict request bytes found → Appends out out' (verdict_text found)
-    → Meets (judges request room) bytes left out out' (status_of_verdict found)
-judged_meets request room bytes left out out' verdict.Unread few judged w =
-    answered_meets (judges request room) bytes left out out' (status_of_verdict verdict.Unread)
+    → Meets (judges request room) bytes left ended out out' (status_of_verdict found)
+judged_meets request room bytes left ended out out' verdict.Unread few judged w =
+    answered_meets (judges request room) bytes left ended out out' (status_of_verdict verdict.Unread)
     (λ d. ([], inr (few, (verdict.Unread, judged, refl, refl)), w)) (λ e. cc) (λ e. cc)
-judged_meets request room bytes left out out' found few judged w =
-    answered_meets (judges request room) bytes left out out' (status_of_verdict found)
+judged_meets request room bytes left ended out out' found few judged w =
+    answered_meets (judges request room) bytes left ended out out' (status_of_verdict found)
     (λ d. (verdict_text found, inr (few, (found, judged, refl, refl)), w)) (λ e. cc) (λ e. cc)
 
 -- a rest that was judged
@@ -123,7 +123,7 @@ check_judged request room before after out out' found fits there f w =
       meets = λ rest tells.
           let whole : f.read ++ rest ≡ f.read =
           ap (λ l. f.read ++ l) (over_left after rest tells f.end) ∙ append-nil f.read in
-          judged_meets request room (f.read ++ rest) rest out out' found
+          judged_meets request room (f.read ++ rest) rest after.told.ended out out' found
           (subst (λ (l : List ℕ). length l ≤ certificate_limit) (sym whole) f.short)
           (subst (λ (l : List ℕ). IsVerdict request l found) (sym whole) f.judged) w;
     })
@@ -139,6 +139,6 @@ check_cut request room before after out out' cost fits there f w =
       consumed = f.consumed;
       few = let few : length f.read ≤ room + 1 = omega (arith, fits, f.short) in few;
       meets = λ rest tells.
-          cut_meets (judges request room) f.read rest (least_line cost) out out' w
+          cut_meets (judges request room) f.read rest after.told.ended (least_line cost) out out' w
           (over_left after rest tells f.end, f.short, (verdict.Least cost, f.judged, refl, refl));
     })

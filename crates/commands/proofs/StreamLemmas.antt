@@ -49,7 +49,7 @@ front_cut made way room before out out' wrote =
     let alone : made.front.items ≡ stream_text made way (vectors_of size modulus []) =
     sym (ap (stream_text made way) none ∙ append-nil made.front.items) in
     unread_meets (stream_work made way room) before out out' WriteFault (λ bytes.
-    cut_meets (stream_work made way room) [] bytes made.front.items out out' wrote
+    cut_meets (stream_work made way room) [] bytes before.told.ended made.front.items out out' wrote
     (record { few = omega arith; good = refl }, inl refl, alone, inl refl))
 
 -- The machines

@@ -1,7 +1,7 @@
 //! The commands of a call, from the input to what they write: by a request, by a formula, by a listing and by a list.
 #![tactic(auto)]
 
-ghost use Rattle.std.specs.Prelude.{◌≡◌, ◌≢◌, ◌-◌, ◌≤◌, ℕ, List, [], true};
+ghost use Rattle.std.specs.Prelude.{◌≡◌, ◌≢◌, ◌-◌, ◌≤◌, Bool, ℕ, List, [], true};
 ghost use Rattle.std.specs.Io.KnownBytes.{Appends};
 ghost use Rattle.io_edge.specs.Told.{IsOver};
 ghost use Rattle.matrix_meaning.specs.Valid.{IsInRange};
@@ -45,8 +45,8 @@ fn write_text<O: Sink>(
 ) -> Result<(), Status>
     requires in_range { IsInRange request.now }
     requires turns { NamesNoStranger (RequestCommand.Writes document.now) request.now.procs }
-    ensures told { (room : ℕ) (bytes : List ℕ) →
-        Meets (work_for (RequestCommand.Writes document.now) request.now room) bytes bytes
+    ensures told { (room : ℕ) (bytes : List ℕ) (ended : Bool) →
+        Meets (work_for (RequestCommand.Writes document.now) request.now room) bytes bytes ended
         (O.taken output.old) (O.taken output.new) (status_of result) }
     ensures read { status_of result ≢ Status.ReadFault }
     ensures usage { status_of result ≢ Status.Usage }

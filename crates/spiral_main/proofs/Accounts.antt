@@ -51,7 +51,7 @@ called words wanted asked = record {
 
 -- a call that reads nothing
 unread : (outcomes : Outcomes) (input : Told) (out : Option (List ℕ)) (status : Status)
-    → ((bytes : List ℕ) → Meets outcomes bytes bytes out out status) → CallMeetsFor outcomes input input out out status
+    → ((bytes : List ℕ) → Meets outcomes bytes bytes input.ended out out status) → CallMeetsFor outcomes input input out out status
 unread outcomes input out status p = record {
   used = [];
   held = [];
@@ -95,13 +95,13 @@ pub accounted_words : (words : List (List ℕ)) (input : Told) (out : Option (Li
     → (IsDefined status → commanded words (Err status)) → IsEarly status
     → CallMeetsFor (call_outcomes words) input input out out status
 accounted_words words input out status refused early = unread (call_outcomes words) input out status (λ bytes.
-    meets_nothing (call_outcomes words) bytes bytes out status (λ d. inl (refused d, refl)) early.read early.write)
+    meets_nothing (call_outcomes words) bytes bytes input.ended out status (λ d. inl (refused d, refl)) early.read early.write)
 
 -- and one that has no memory to begin with
 pub accounted_nothing : (words : List (List ℕ)) (input : Told) (out : Option (List ℕ))
     → CallMeetsFor (call_outcomes words) input input out out NoMemory
 accounted_nothing words input out = unread (call_outcomes words) input out NoMemory (λ bytes.
-    meets_nothing (call_outcomes words) bytes bytes out NoMemory (λ d. absurd (d.memory refl)) (λ e. cc) (λ e. cc))
+    meets_nothing (call_outcomes words) bytes bytes input.ended out NoMemory (λ d. absurd (d.memory refl)) (λ e. cc) (λ e. cc))
 
 -- more is right for the call
 pub call_within : (a b : Outcomes) (before left : Told) (out out' : Option (List ℕ)) (status : Status) → Within a b
@@ -114,7 +114,7 @@ call_within a b before left out out' status w m = record {
   few = m.few;
   none = m.none;
   meets = λ rest tells.
-      meets_within a b (m.used ++ (m.held ++ rest)) (m.held ++ rest) out out' status w (m.meets rest tells);
+      meets_within a b (m.used ++ (m.held ++ rest)) (m.held ++ rest) left.ended out out' status w (m.meets rest tells);
 }
 
 -- of an input that may have these bytes left
@@ -131,7 +131,7 @@ told_left words input input' before after status told left tells = record {
       let rest = length-append told.held left in
       omega (arith, told.within, all, read, rest);
   meets =
-      subst (λ (b : List ℕ). Meets (call_outcomes words) b (told.held ++ left) before after status)
+      subst (λ (b : List ℕ). Meets (call_outcomes words) b (told.held ++ left) input'.ended before after status)
       (sym (append_assoc told.used told.held left)) (told.meets left tells);
 }
 

@@ -95,18 +95,18 @@ pub record WantsList (wants : Wants) (size : ℕ) : Type 0 where
 
 module _ (wants : Wants) (size modulus : ℕ) (list : WantsList wants size)
     (IsText : List ℕ → List (List ℕ) → List ℕ → Type 0) where
-  lacks : (old new : Fed) (read left : List ℕ) (out : Option (List ℕ)) (result : Result (Unit {0}) StreamFault)
+  lacks : (old new : Fed) (read left : List ℕ) (ended : Bool) (out : Option (List ℕ)) (result : Result (Unit {0}) StreamFault)
       → (lacking size result ≢ stream.TooLong → new.taken ≤ limit) → result ≢ Err stream.WriteFault
       → Reads size modulus old new read (left ≡ []) [] result
       → Answers size modulus (limit - old.taken) (read ++ left) [] result
-      → Meets (mapping wants size modulus (by_first IsText) (limit - old.taken)) (read ++ left) left out out
+      → Meets (mapping wants size modulus (by_first IsText) (limit - old.taken)) (read ++ left) left ended out out
       (status_of_fault (lacking size result))
-  lacks old new read left out (Ok u) ends other s seen =
-      run_answers wants (by_first IsText) size modulus old new read left [] [] [] (λ x. []) refl out out out
+  lacks old new read left ended out (Ok u) ends other s seen =
+      run_answers wants (by_first IsText) size modulus old new read left ended [] [] [] (λ x. []) refl out out out
       (Appends-nil out) (Ok u) (status_of_fault (lacking size (Ok u))) (list.lacks (Ok u)) seen (Appends-nil out)
       (λ e. cc) (λ e. cc)
-  lacks old new read left out (Err fault) ends other s seen =
-      run_meets wants (by_first IsText) size modulus old new read left [] [] [] (λ x. []) refl out out out
+  lacks old new read left ended out (Err fault) ends other s seen =
+      run_meets wants (by_first IsText) size modulus old new read left ended [] [] [] (λ x. []) refl out out out
       (Appends-nil out) (Err fault) (list.lacks (Err fault)) list.on s seen (nothing_written out (λ x. []) fault other)
       (λ short. ends (λ e. short (ap failed e))) (λ ahead last e. absurd (none_last ahead last e))
 
@@ -126,7 +126,7 @@ module _ (wants : Wants) (size modulus : ℕ) (list : WantsList wants size)
             (λ other. short (lacking_long size result other));
         meets = λ rest tells.
             let goes : IsOver after → rest ≡ [] = over_left after rest tells in
-            rw none.3 (lacks old new r.read rest out result short none.1
+            rw none.3 (lacks old new r.read rest after.told.ended out result short none.1
             (reads_more size modulus old new r.read (IsOver after) (rest ≡ []) [] result goes r.answer)
             (r.answers start rest goes));
       }
@@ -176,7 +176,7 @@ convolves_listing request cut old new before after out out' h listing program si
           (λ e. over_left after rest tells (end e)) in
           let seen : data_vectors request.size request.modulus room bytes ≡ h ∷ first.0 =
           ap (λ n. data_vectors n request.modulus room bytes) (sym size) ∙ first.1 in
-          answered_meets (convolver_work plan room) bytes rest out out' Success
+          answered_meets (convolver_work plan room) bytes rest after.told.ended out out' Success
           (λ d. (
             listing,
             (
@@ -212,7 +212,7 @@ convolves_cut request cut old new before after out out' h listing program size s
           (Err stream.WriteFault) goes r.answer in
           let all : HasAllButLast (IsConvolverText plan) (h ∷ []) wrote.front =
           record { ahead = []; last = h; whole = refl; text = []; right = refl; rest = wrote.front; begins = refl } in
-          cut_meets (convolver_work plan room) r.read rest listing out out' wrote (
+          cut_meets (convolver_work plan room) r.read rest after.told.ended listing out out' wrote (
             fine_by old.taken new.taken r.read s.0 within s.1,
             s.2,
             subst (λ vectors. IsConvolverText plan vectors listing) (sym seen) (same ∙ ap listing_of made.letters),
@@ -277,7 +277,7 @@ run_told schedule request code old new before after out out' h program leaves fi
       meets = λ rest tells.
           let goes : IsOver after → rest ≡ [] = over_left after rest tells in
           run_meets a_first (IsConvolveText (with_tree request made.tree)) request.size request.modulus old new r.read rest
-          (h ∷ []) s.later [] (λ x. line_of (results code x turns)) told out out out' (Appends-nil out) result refl tt
+          after.told.ended (h ∷ []) s.later [] (λ x. line_of (results code x turns)) told out out out' (Appends-nil out) result refl tt
           (reads_more request.size request.modulus old new r.read (IsOver after) (rest ≡ []) (h ∷ s.later) result
           goes r.answer)
           (r.answers start rest goes) s.wrote ends

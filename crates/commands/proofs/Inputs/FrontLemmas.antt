@@ -1,5 +1,5 @@
 -- From what comes after a front to the whole input.
-use Rattle.std.proofs.Common.{◌≡◌, ◌≢◌, ◌<◌, ◌≤◌, ◌+◌, ◌-◌, ℕ, true, false, List, [], ◌++◌, Ok, Err, Result, nat_le}
+use Rattle.std.proofs.Common.{◌≡◌, ◌≢◌, ◌<◌, ◌≤◌, ◌+◌, ◌-◌, ◌⊎◌, Bool, ℕ, true, false, List, [], ◌∷◌, ◌++◌, Ok, Err, Result, nat_le}
 use Rattle.std.proofs.Common.{length, cond, refl, sym, ap, subst, ◌∙◌, arith, append_assoc, length-append, inl, inr}
 use Rattle.std.proofs.lemmas.Grind.{common_steps}
 use Rattle.std.proofs.KnownBytes.{Appends-nil}
@@ -32,6 +32,25 @@ still_ended : (front : Front) → IsFront front → (read more : List ℕ) (now 
 still_ended front is read more now later (inl there) goes = inl (is.kept read more there)
 still_ended front is read more now later (inr e) goes = inr (goes e)
 
+-- whether the input is over is known
+over_or_not : (held : List ℕ) (ended : Bool) →
+    ((held ≡ []) × (ended ≡ true)) ⊎ ((held ≡ []) × (ended ≡ true) → ⊥)
+over_or_not [] true = inl (refl, refl)
+over_or_not [] false = inr (λ over. let wrong = over.1 in cc)
+over_or_not (byte ∷ held) ended = inr (λ over. let wrong = over.0 in cc)
+
+stands_alone : (front : Front) (read : List ℕ) (byte : ℕ) (over : Type 0) → HasEnded front read (byte ∷ [] ≡ []) →
+    HasEnded front read over
+stands_alone front read byte over (inl there) = inl there
+stands_alone front read byte over (inr wrong) = absurd (cc)
+
+-- one behind which everything is known has ended by its own end, or the input is over
+stands_by : (front : Front) → IsFront front → (read : List ℕ) (over : Type 0) → over ⊎ (over → ⊥) →
+    ((more : List ℕ) → (over → more ≡ []) → front.behind (read ++ more) ≡ more) → HasEnded front read over
+stands_by front is read over (inl yes) behind = inr yes
+stands_by front is read over (inr no) behind = stands_alone front read 0 over
+    (is.there read (0 ∷ []) (λ more none. behind more (λ yes. absurd (no yes))))
+
 -- as many bytes may come after it as the limit leaves after what was taken for it
 room_after : (front : Front) (read more : List ℕ) (taken : ℕ) → taken ≡ length read →
     front.behind (read ++ more) ≡ more → limit - taken ≡ room_behind front (read ++ more)
@@ -59,11 +78,12 @@ front_long front bytes long =
 -- what the work comes to after the front is right for the whole input
 front_meets : {A : Type 0} (front : Front) → IsFront front →
     (orders : List ℕ → Stage A) (work : A → Work) (bytes read rest : List ℕ) (taken : ℕ) (value : A)
-    (left : List ℕ) (out out' : Option (List ℕ)) (status : Status)
+    (left : List ℕ) (was : Type 0) (ended : Bool) (out out' : Option (List ℕ)) (status : Status)
     → bytes ≡ read ++ rest → AsksBy front orders read (rest ≡ []) taken (Ok value)
-    → Meets (work value (limit - taken)) rest left out out' status
-    → Meets (by_front front orders work) bytes left out out' status
-front_meets {A} front is orders work bytes read rest taken value left out out' status whole asked p =
+    → HasEnded front read was → (was → ended ≡ true)
+    → Meets (work value (limit - taken)) rest left ended out out' status
+    → Meets (by_front front orders work) bytes left ended out out' status
+front_meets {A} front is orders work bytes read rest taken value left was ended out out' status whole asked stands stays p =
     let here = asked.1 rest (λ e. e) in
     let ordered_here : ordered front orders bytes (Ok value) = subst (λ b. ordered front orders b (Ok value)) (sym whole) here.0 in
     let data_here : front.behind bytes ≡ rest = ap front.behind whole ∙ here.1 in
@@ -94,9 +114,12 @@ front_meets {A} front is orders work bytes read rest taken value left out out' s
             whole ∙ ap (λ l. read ++ l) found.2 ∙ sym (append_assoc read found.0 left),
             inr (
               value,
-              has found.0 (left ≡ []) none (λ end. (none_cut rest found.0 left found.2 end).1),
-              subst (λ n. (work value n).broken (front.behind (read ++ found.0)) (left ≡ []) found.1) (room_after front read found.0 taken asked.0 (asked.1 found.0 none).1)
-                  (subst (λ b. (work value (limit - taken)).broken b (left ≡ []) found.1) (sym (asked.1 found.0 none).1) found.3),
+              record {
+                front = still_ended front is read found.0 was (ended ≡ true) stands stays;
+                gives = (asked.1 found.0 none).0;
+              },
+              subst (λ n. (work value n).broken (front.behind (read ++ found.0)) (ended ≡ true) found.1) (room_after front read found.0 taken asked.0 (asked.1 found.0 none).1)
+                  (subst (λ b. (work value (limit - taken)).broken b (ended ≡ true) found.1) (sym (asked.1 found.0 none).1) found.3),
             ),
             found.4,
           );
@@ -136,8 +159,11 @@ front_told front is orders work before mid left taken value out out' status a mo
       let behind : List ℕ = p.read ++ rest in
       let asked : AsksBy front orders a.read (behind ≡ []) taken (Ok value) =
       (a.asks.0, λ more none. a.asks.1 more (λ over. none (over_rest mid left p.read rest p.consumed tells over))) in
-      front_meets front is orders work ((a.read ++ p.read) ++ rest) a.read behind taken value rest out out' status
-      (append_assoc a.read p.read rest) asked (p.meets rest tells);
+      front_meets front is orders work ((a.read ++ p.read) ++ rest) a.read behind taken value rest (IsOver mid)
+      left.told.ended out out' status (append_assoc a.read p.read rest) asked
+      (stands_by front is a.read (IsOver mid) (over_or_not mid.held mid.told.ended)
+      (λ more over. (a.asks.1 more over).1))
+      (λ over. p.consumed.ended over.1) (p.meets rest tells);
 }
 
 -- The front orders nothing

@@ -16,7 +16,7 @@ returns-in-Writes-clause-told g c =
     let room = limit - c.args.feed.now.taken in
     let status = status_of c.write_text.result in
     subst (λ (k : RequestCommand). SourceMeets (work_for k c.args.request.now room) start start out written status) (sym c.in-Writes.is)
-    (unread_meets (work_for (command.Writes c.in-Writes.document) c.args.request.now room) start out written status (c.write_text.ensures.told room))
+    (unread_meets (work_for (command.Writes c.in-Writes.document) c.args.request.now room) start out written status (λ bytes. c.write_text.ensures.told room bytes (g.I.Source.told c.args.input.now).ended))
 
 pub returns-in-Judges-clause-told : goal.returns-in-Judges-clause-told
 returns-in-Judges-clause-told g c =

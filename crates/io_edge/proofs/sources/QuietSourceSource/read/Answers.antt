@@ -1,7 +1,7 @@
 use Rattle.std.proofs.Common.{rules, arith, ap, ◌≡◌, ◌∙◌, true, length, take, ◌≤◌, ◌+◌, subst}
 use Rattle.std.proofs.lemmas.Grind.{common_steps}
 use Rattle.io_edge.specs.Told.{Gives, Told}
-use Rattle.io_edge.proofs.SourceLemmas.{gives_on}
+use Rattle.io_edge.proofs.SourceLemmas.{given_of, gives_on}
 use Rattle.io_edge.proofs.sources.QuietSourceSource.read.Goals as goal
 use Rattle.io_edge.proofs.sources.QuietSourceSource.read.Goals.{then-self, else-self+then-count-eq0, else-self+else-count-eq0}
 
@@ -11,7 +11,7 @@ returns-clause-bytes c =
     let count = c.fill-count.result in
     let items = c.self.inside.bytes.items in
     let full : c.self.inside.ended ≡ true → length items ≤ at = λ ends. let all = c.self.invariant.1 ends in omega (arith, all) in
-    subst (λ (v : Told). Gives v _ _) c.self.view_is
+    subst (λ (v : Told). Gives v (given_of items (at + count) c.if-self.self) (take count c.fill-count.new.buf)) c.self.view_is
     (gives_on items at count c.self.inside.ended c.if-self.self (take count c.fill-count.new.buf)
     (grind (arith, common_steps, c.fill-count.ensures.front, c.deref.ensures.value))
     full
