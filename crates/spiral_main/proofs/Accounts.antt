@@ -120,7 +120,7 @@ call_within a b before left out out' status w m = record {
 -- of an input that may have these bytes left
 pub told_left : (words : List (List ℕ)) (input input' : Told) (before after : Option (List ℕ)) (status : Status)
     (told : AccountsFor words input input' before after status) (left : List ℕ) → Tells (rest_of input') left
-    → Accounts words ((told.used ++ told.held) ++ left) left before after status
+    → Accounts words ((told.used ++ told.held) ++ left) left input'.ended before after status
 told_left words input input' before after status told left tells = record {
   held = told.held;
   few = told.few;
@@ -139,12 +139,12 @@ told_left words input input' before after status told left tells = record {
 pub told_input : (words : List (List ℕ)) (bytes : List ℕ) (input input' : Told) (before after : Option (List ℕ))
     (status : Status)
     → rest_of input ≡ Some bytes → AccountsFor words input input' before after status
-    → (rest : List ℕ) × (rest_of input' ≡ Some rest) × Accounts words bytes rest before after status
+    → (rest : List ℕ) × (rest_of input' ≡ Some rest) × Accounts words bytes rest input'.ended before after status
 told_input words bytes input input' before after status tells p =
     let left = gives_told input input' bytes (p.used ++ p.held) tells p.gave in (
       left.0,
       left.1,
-      subst (λ (b : List ℕ). Accounts words b left.0 before after status) (sym left.2)
+      subst (λ (b : List ℕ). Accounts words b left.0 input'.ended before after status) (sym left.2)
           (told_left words input input' before after status p left.0
           (subst (λ (k : Option (List ℕ)). Tells k left.0) (sym left.1) refl)),
     )
