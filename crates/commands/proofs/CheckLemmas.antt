@@ -41,7 +41,8 @@ check_barred request room before out fault barred =
     stage_refused (fitting request) judges room before out (status_of_generate fault) (λ _. (fault, barred, refl)) (generate_refusal fault)
 
 -- the rest can't be judged
-unread_told : (request : Request) (room : ℕ) (before after : Coming) (out : Option (List ℕ)) (read : List ℕ) (fault : RestFault)
+unread_told : (request : Request) (room : ℕ) (before after : Coming) (out : Option (List ℕ)) (read : List ℕ)
+    (fault : RestFault)
     → certificate_limit ≤ room → Consumes before after read
     → GivesRest certificate_limit read (IsOver after) (Err fault)
     → SourceMeets (judges request room) before after out out (status_of_rest fault)
@@ -60,7 +61,8 @@ unread_told request room before after out read rest_fault.ReadFault fits consume
   consumed = consumed;
   few = let few : length read ≤ room + 1 = omega (arith, fits, given) in few;
   meets = λ rest tells.
-      broken_meets (judges request room) (read ++ rest) rest after.told.ended out out (read, [], refl, (given, refl), Appends-nil out);
+      broken_meets (judges request room) (read ++ rest) rest after.told.ended out out
+      (read, [], refl, (given, refl), Appends-nil out);
 }
 unread_told request room before after out read rest_fault.NoMemory fits consumed given =
     let few : length read ≤ room + 1 = omega (arith, fits, given) in
@@ -99,7 +101,8 @@ found_of request context before after text seen found other (read, consumed, (sa
       (subst (λ (v : Verdict). IsVerdict request seen v) e (subst (λ (r : Request). IsVerdict r seen other) c judged));
 }
 
-judged_meets : (request : Request) (room : ℕ) (bytes left : List ℕ) (ended : Bool) (out out' : Option (List ℕ)) (found : Verdict)
+judged_meets : (request : Request) (room : ℕ) (bytes left : List ℕ) (ended : Bool) (out out' : Option (List ℕ))
+    (found : Verdict)
     → length bytes ≤ certificate_limit → IsVerdict request bytes found → Appends out out' (verdict_text found)
     → Meets (judges request room) bytes left ended out out' (status_of_verdict found)
 judged_meets request room bytes left ended out out' verdict.Unread few judged w =

@@ -68,7 +68,8 @@ document_meets wanted request room bytes left ended out out' text is wrote =
     (λ d. (text, (refl, is.2), wrote)) (λ e. cc) (λ e. cc))
 
 -- a text that is not written whole
-pub document_cut : (wanted : Document) (request : Request) (room : ℕ) (bytes : List ℕ) (ended : Bool) (out out' : Option (List ℕ))
+pub document_cut : (wanted : Document) (request : Request) (room : ℕ) (bytes : List ℕ) (ended : Bool)
+    (out out' : Option (List ℕ))
     (text : List ℕ)
     → IsDocument wanted request text → AppendsPrefix out out' text
     → Meets (staged (chosen request) (document_work wanted) room) bytes bytes ended out out' WriteFault

@@ -131,8 +131,8 @@ pub record Accounts (words : List (List ℕ)) (bytes left : List ℕ) (before af
   pub write_fault : status ≡ WriteFault →
       (text : List ℕ) × IsOutcome words bytes Success text × AppendsPrefix before after text
 
--- the same by an input: in this call it gave these bytes, and with all that it may have left they account for status and output. One
--- that does not tell its bytes may have any left
+-- the same by an input: in this call it gave these bytes, and with all that it may have left they account for status
+-- and output. One that does not tell its bytes may have any left
 pub record AccountsFor (words : List (List ℕ)) (input input' : Told) (before after : Option (List ℕ))
     (status : Status) : Type 0 where
   pub read : List ℕ

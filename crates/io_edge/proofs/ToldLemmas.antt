@@ -35,7 +35,8 @@ over_known coming over =
 pub over_left : (coming : Coming) (left : List ℕ) → Tells (known coming) left → IsOver coming → left ≡ []
 over_left coming left tells over = subst (λ k. Tells k left) (over_known coming over) tells
 
-nothing_read : (after : Option (List ℕ)) (read left : List ℕ) → known_bytes.Consumes (Some []) after read → Tells after left
+nothing_read : (after : Option (List ℕ)) (read left : List ℕ) → known_bytes.Consumes (Some []) after read
+    → Tells after left
     → read ++ left ≡ []
 nothing_read None read left consumed tells = absurd consumed
 nothing_read (Some rest) read left consumed tells = ap (λ l. read ++ l) tells ∙ sym consumed

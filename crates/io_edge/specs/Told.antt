@@ -49,8 +49,8 @@ known coming = prepend_known coming.held (rest_of coming.told)
 abbrev pub IsOver : Coming → Type 0
 IsOver coming = (coming.held ≡ []) × (coming.told.ended ≡ true)
 
--- these bytes came: what is known begins with them, and loses them; what the source gave and the feed does not hold grows
--- by them; and an end stays
+-- these bytes came: what is known begins with them, and loses them; what the source gave and the feed does not hold
+-- grows by them; and an end stays
 pub record Consumes (before after : Coming) (bytes : List ℕ) : Type 0 where
   pub left : known_bytes.Consumes (known before) (known after) bytes
   pub given : (used : List ℕ) → before.told.given ≡ used ++ before.held →

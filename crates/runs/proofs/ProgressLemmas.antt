@@ -27,7 +27,8 @@ use Rattle.runs.proofs.StreamLemmas.{answered_with, fault_within, seen_front, st
 use Rattle.runs.proofs.CutLemmas.{writes_same}
 
 -- nothing was read yet
-pub come_none : (modulus size : ℕ) (cut : Cut) (feed : Fed) (a : Coming) → cut ≡ record { size = size; done = 0; ended = false } → HasCome modulus cut feed feed a a []
+pub come_none : (modulus size : ℕ) (cut : Cut) (feed : Fed) (a : Coming)
+    → cut ≡ record { size = size; done = 0; ended = false } → HasCome modulus cut feed feed a a []
 come_none modulus size cut feed a new = record {
   progress = subst (λ (v : Cut). StreamProgress a a feed.taken feed.taken v.ended v.size modulus v.done []) (sym new) (no_stream a feed.taken false size modulus);
   begun = λ _. refl;

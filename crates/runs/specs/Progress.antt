@@ -12,7 +12,8 @@ use Rattle.runs.specs.declared.stream.StreamFault.{StreamFault}
 use Rattle.runs.specs.declared.stream.StreamFault.TheVariants.{Truncated, WriteFault}
 
 -- the bytes that were read so far, and their vectors
-pub record StreamProgress (before after : Coming) (old new : ℕ) (ended : Bool) (size modulus done : ℕ) (vectors : List (List ℕ)) : Type 0 where
+pub record StreamProgress (before after : Coming) (old new : ℕ) (ended : Bool) (size modulus done : ℕ)
+    (vectors : List (List ℕ)) : Type 0 where
   pub bytes : List ℕ
   pub ts : List (List ℕ)
   pub consumed : Consumes before after bytes
@@ -25,19 +26,22 @@ pub record StreamProgress (before after : Coming) (old new : ℕ) (ended : Bool)
   pub closed : ended ≡ false → closed_part bytes ≡ bytes
 
 -- After what was read from these data on, the feed stands here, and these vectors were whole. A feed over its limit has given nothing
-pub record HasCome (modulus : ℕ) (cut : Cut) (old new : Fed) (before after : Coming) (vectors : List (List ℕ)) : Type 0 where
+pub record HasCome (modulus : ℕ) (cut : Cut) (old new : Fed) (before after : Coming)
+    (vectors : List (List ℕ)) : Type 0 where
   pub progress : StreamProgress before after old.taken new.taken cut.ended cut.size modulus cut.done vectors
   pub begun : limit < new.taken → new.taken ≡ old.taken
 
 -- the answer to data, and their vectors, by the bytes that were read and by all bytes
-pub record ReadsData (size modulus : ℕ) (old new : Fed) (before after : Coming) (vectors : List (List ℕ)) (result : Result (Unit {0}) StreamFault) : Type 0 where
+pub record ReadsData (size modulus : ℕ) (old new : Fed) (before after : Coming) (vectors : List (List ℕ))
+    (result : Result (Unit {0}) StreamFault) : Type 0 where
   pub read : List ℕ
   pub consumed : Consumes before after read
   pub answer : Reads size modulus old new read (IsOver after) vectors result
   pub answers : old.taken ≤ limit → AnswersWith size modulus (limit - old.taken) read (IsOver after) vectors result
 
 -- What a run has read, written and left that goes on after these vectors: the data are read to their end from where they began, and the texts are those of the later vectors
-pub record StreamsBehind {S : Type 0} (seen : List (List ℕ)) (text : List ℕ → List ℕ) (leaves : List ℕ → S) (size modulus : ℕ) (old new : Fed) (before after : Coming)
+pub record StreamsBehind {S : Type 0} (seen : List (List ℕ)) (text : List ℕ → List ℕ) (leaves : List ℕ → S)
+    (size modulus : ℕ) (old new : Fed) (before after : Coming)
     (out out' : Option (List ℕ)) (first last : S) (result : Result (Unit {0}) StreamFault) : Type 0 where
   pub later : List (List ℕ)
   pub reads : ReadsData size modulus old new before after (seen ++ later) result
@@ -45,7 +49,8 @@ pub record StreamsBehind {S : Type 0} (seen : List (List ℕ)) (text : List ℕ 
   pub stands : result ≢ Err WriteFault → last ≡ state_behind leaves first later
 
 -- the same from here on, wherever the data began
-abbrev pub StreamsOn : {S : Type 0} → (List ℕ → List ℕ) → (List ℕ → S) → ℕ → Cut → Fed → Fed → Coming → Coming → Option (List ℕ) → Option (List ℕ)
+abbrev pub StreamsOn : {S : Type 0} → (List ℕ → List ℕ) → (List ℕ → S) → ℕ → Cut → Fed → Fed → Coming → Coming
+    → Option (List ℕ) → Option (List ℕ)
     → S → S → Result (Unit {0}) StreamFault → Type 0
 StreamsOn text leaves modulus cut now new mid after out out' first last result =
     (old : Fed) (before : Coming) (seen : List (List ℕ)) → HasCome modulus cut old now before mid seen

@@ -118,7 +118,8 @@ Writes before after (Err WriteFault) text vectors = FailsAtLast text vectors bef
 Writes before after result text vectors = Appends before after (texts text vectors)
 
 -- What a run has read, written and left, which writes the text of each vector and is then where the vector leaves it, unless the output fails in between
-pub record Streams {S : Type 0} (text : List ℕ → List ℕ) (leaves : List ℕ → S) (size modulus : ℕ) (old new : Fed) (before after : Coming)
+pub record Streams {S : Type 0} (text : List ℕ → List ℕ) (leaves : List ℕ → S) (size modulus : ℕ) (old new : Fed)
+    (before after : Coming)
     (out out' : Option (List ℕ)) (first last : S) (result : Result (Unit {0}) StreamFault) : Type 0 where
   pub read : List ℕ
   pub vectors : List (List ℕ)

@@ -51,7 +51,8 @@ called words wanted asked = record {
 
 -- a call that reads nothing
 unread : (outcomes : Outcomes) (input : Told) (out : Option (List ℕ)) (status : Status)
-    → ((bytes : List ℕ) → Meets outcomes bytes bytes input.ended out out status) → CallMeetsFor outcomes input input out out status
+    → ((bytes : List ℕ) → Meets outcomes bytes bytes input.ended out out status)
+    → CallMeetsFor outcomes input input out out status
 unread outcomes input out status p = record {
   used = [];
   held = [];
@@ -95,13 +96,15 @@ pub accounted_words : (words : List (List ℕ)) (input : Told) (out : Option (Li
     → (IsDefined status → commanded words (Err status)) → IsEarly status
     → CallMeetsFor (call_outcomes words) input input out out status
 accounted_words words input out status refused early = unread (call_outcomes words) input out status (λ bytes.
-    meets_nothing (call_outcomes words) bytes bytes input.ended out status (λ d. inl (refused d, refl)) early.read early.write)
+    meets_nothing (call_outcomes words) bytes bytes input.ended out status
+    (λ d. inl (refused d, refl)) early.read early.write)
 
 -- and one that has no memory to begin with
 pub accounted_nothing : (words : List (List ℕ)) (input : Told) (out : Option (List ℕ))
     → CallMeetsFor (call_outcomes words) input input out out NoMemory
 accounted_nothing words input out = unread (call_outcomes words) input out NoMemory (λ bytes.
-    meets_nothing (call_outcomes words) bytes bytes input.ended out NoMemory (λ d. absurd (d.memory refl)) (λ e. cc) (λ e. cc))
+    meets_nothing (call_outcomes words) bytes bytes input.ended out NoMemory (λ d. absurd (d.memory refl)) (λ e. cc)
+    (λ e. cc))
 
 -- more is right for the call
 pub call_within : (a b : Outcomes) (before left : Told) (out out' : Option (List ℕ)) (status : Status) → Within a b

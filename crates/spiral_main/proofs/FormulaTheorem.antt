@@ -1,5 +1,6 @@
 -- The theorem of the commands for formulas and for convolutions, from the laws on them.
-use Rattle.std.proofs.Common.{Bool, ◌≡◌, ◌≤◌, ◌<◌, ◌^◌, ◌∙◌, ℕ, true, false, List, [], ◌∷◌, None, Ok, ap, arith, codes, inr, refl}
+use Rattle.std.proofs.Common.{Bool, ◌≡◌, ◌≤◌, ◌<◌, ◌^◌, ◌∙◌, ℕ, true, false, List, [], ◌∷◌, None, Ok, ap, arith}
+use Rattle.std.proofs.Common.{codes, inr, refl}
 use Rattle.std.proofs.Common.{sym}
 use Rattle.std.proofs.lemmas.List.Elements.{All-nil}
 use Rattle.std.specs.declared.option.Option.{Option}
@@ -69,7 +70,8 @@ right_convolver r t h able planned =
       cheapest = λ u is. let less = planned.2.least u is in omega (arith, less);
     }
 
-right_answer : (words : List (List ℕ)) (bytes left : List ℕ) (ended : Bool) (before after : Option (List ℕ)) (status : Status)
+right_answer : (words : List (List ℕ)) (bytes left : List ℕ) (ended : Bool) (before after : Option (List ℕ))
+    (status : Status)
     → Accounts words bytes left ended before after status → IsDefined status
     → IsRightFormulaAnswer words bytes before after status
 right_answer words bytes left ended before after status accounts well = record {
@@ -128,7 +130,8 @@ formulas_are_right words bytes input input' before after status tells told well 
     let rest = told_input words bytes input input' before after status tells told in
     right_answer words bytes rest.0 input'.ended before after status rest.2 well
 
-pub formula_run_is_right : (words : List (List ℕ)) (input input' : Told) (before after : Option (List ℕ)) (status : Status)
+pub formula_run_is_right : (words : List (List ℕ)) (input input' : Told) (before after : Option (List ℕ))
+    (status : Status)
     → AccountsFor words input input' before after status → IsDefined status
     → IsRightFormulaRun words input input' before after status
 formula_run_is_right words input input' before after status told well =

@@ -164,7 +164,8 @@ executed_is_right schedule bytes program short gives vectors =
     (whole_answer program.size program.modulus (λ vs t. t ≡ lines (result_of program) vs) (room_behind (part 1048576) bytes) ((part 1048576).behind bytes) text vectors refl)
 
 -- a call whose outcome is Success with this text succeeds with it, but for the outside and memory
-pub right_success : (words : List (List ℕ)) (bytes left : List ℕ) (ended : Bool) (before after : Option (List ℕ)) (s : Status)
+pub right_success : (words : List (List ℕ)) (bytes left : List ℕ) (ended : Bool) (before after : Option (List ℕ))
+    (s : Status)
     (t : List ℕ) → IsOutcome words bytes Success t
     → Accounts words bytes left ended before after s → s ≢ ReadFault → s ≢ WriteFault → s ≢ NoMemory
     → (s ≡ Success) × Appends before after t

@@ -116,20 +116,23 @@ lists_right names bytes plan right =
     lists (IsRightProgram plan.request plan.tree) (emission plan.request plan.tree) own own.leaves.listed
 
 -- an outcome that is Success, with a text that has P
-pub writes : (words : List (List ℕ)) (bytes left : List ℕ) (ended : Bool) (before after : Option (List ℕ)) (status : Status)
+pub writes : (words : List (List ℕ)) (bytes left : List ℕ) (ended : Bool) (before after : Option (List ℕ))
+    (status : Status)
     (P : List ℕ → Type 0) (text : List ℕ) → Accounts words bytes left ended before after status → IsDefined status
     → IsOutcome words bytes Success text → P text → Writes P before after status
 writes words bytes left ended before after status P text accounts well own right =
     let found = right_success words bytes left ended before after status text own accounts well.read well.write well.memory in
     record { success = found.0; text = text; right = right; took = found.1 }
 
-right_answer : (words : List (List ℕ)) (bytes left : List ℕ) (ended : Bool) (before after : Option (List ℕ)) (status : Status)
+right_answer : (words : List (List ℕ)) (bytes left : List ℕ) (ended : Bool) (before after : Option (List ℕ))
+    (status : Status)
     → Accounts words bytes left ended before after status → IsDefined status
     → IsRightAnswer words bytes before after status
 right_answer words bytes left ended before after status accounts well = record {
   code = λ options plan found right.
       let text = listing_of (emission plan.request plan.tree) in
-      writes words bytes left ended before after status (Lists (IsRightProgram plan.request plan.tree)) text accounts well
+      writes words bytes left ended before after status
+      (Lists (IsRightProgram plan.request plan.tree)) text accounts well
       (inr (
         command.ByRequest (request.Writes document.Code),
         (codes "code", options, found, refl),

@@ -45,7 +45,8 @@ pub record CallMeets (outcomes : Outcomes) (bytes left : List ℕ) (ended : Bool
   pub within : length bytes ≤ outcomes.most + length (held ++ left)
   pub meets : Meets outcomes bytes (held ++ left) ended before after status
 
--- The same by an input: in this call it gave these bytes, those that were used and those that are held, and with all that it
+-- The same by an input: in this call it gave these bytes, those that were used and those that are held, and with all
+-- that it
 -- may have left status and output are right
 pub record CallMeetsFor (outcomes : Outcomes) (source source' : Told) (before after : Option (List ℕ))
     (status : Status) : Type 0 where

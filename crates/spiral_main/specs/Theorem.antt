@@ -21,6 +21,7 @@
 --   AccountsFor             what the clause `told` of `spiral_run` says of words, input, output and status
 --   IsDefined status        no read or write failed, and memory did not run out
 --   Appends before after t  the output held `before`, took the bytes t, and holds `after`
+--   Gives before after bs   the input stood at `before`, gave the bytes bs in the call, and stands at `after`
 use Rattle.std.specs.Prelude.{◌≡◌, ℕ, ◌*◌, ◌<◌, ◌≤◌, List, [], ◌++◌, Some, codes}
 use Rattle.std.specs.declared.option.Option.{Option}
 use Rattle.std.specs.Io.KnownBytes.{Appends}

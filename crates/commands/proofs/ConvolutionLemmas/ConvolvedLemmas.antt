@@ -95,7 +95,8 @@ pub record WantsList (wants : Wants) (size : ℕ) : Type 0 where
 
 module _ (wants : Wants) (size modulus : ℕ) (list : WantsList wants size)
     (IsText : List ℕ → List (List ℕ) → List ℕ → Type 0) where
-  lacks : (old new : Fed) (read left : List ℕ) (ended : Bool) (out : Option (List ℕ)) (result : Result (Unit {0}) StreamFault)
+  lacks : (old new : Fed) (read left : List ℕ) (ended : Bool) (out : Option (List ℕ))
+      (result : Result (Unit {0}) StreamFault)
       → (lacking size result ≢ stream.TooLong → new.taken ≤ limit) → result ≢ Err stream.WriteFault
       → Reads size modulus old new read (left ≡ []) [] result
       → Answers size modulus (limit - old.taken) (read ++ left) [] result
@@ -131,7 +132,8 @@ module _ (wants : Wants) (size modulus : ℕ) (list : WantsList wants size)
             (r.answers start rest goes));
       }
 
-list_told : (code : Bool) (plan : Planned) (old new : Fed) (before after : Coming) (out : Option (List ℕ)) (fault : StreamFault)
+list_told : (code : Bool) (plan : Planned) (old new : Fed) (before after : Coming) (out : Option (List ℕ))
+    (fault : StreamFault)
     → old.taken ≤ limit → (fault ≢ stream.TooLong → new.taken ≤ limit) →
     HasNoVector plan.request.size plan.request.modulus old new before after fault
     → SourceMeets (list_work code plan (limit - old.taken)) before after out out (status_of_fault fault)
@@ -156,7 +158,8 @@ convolves_lacking code plan request old new before after out fault chosen start 
 -- The listing
 
 -- all of it is written
-pub convolves_listing : (request : Request) (cut : Cut) (old new : Fed) (before after : Coming) (out out' : Option (List ℕ))
+pub convolves_listing : (request : Request) (cut : Cut) (old new : Fed) (before after : Coming)
+    (out out' : Option (List ℕ))
     (h listing : List ℕ) (program : Program)
     → cut.size ≡ request.size → HasCome request.modulus cut old new before after (h ∷ []) → old.taken ≤ limit
     → new.taken ≤ limit → (cut.ended ≡ true → IsOver after)
@@ -253,7 +256,8 @@ convolved_lines request h program code turns later made same some there whole =
     later_lines request.size request.modulus f g each some (length whole.0 / request.size) whole.0 h later (div-mul-le_self (length whole.0) request.size) whole.1
 
 run_told : {S : Type 0} (schedule : Plan) (request : Request) (code : Code) (old new : Fed)
-    (before after : Coming) (out out' : Option (List ℕ)) (h : List ℕ) (program : Program) (leaves : List ℕ → S) (first last : S)
+    (before after : Coming) (out out' : Option (List ℕ)) (h : List ℕ) (program : Program) (leaves : List ℕ → S)
+    (first last : S)
     (result : Result (Unit {0}) StreamFault)
     → (made : IsListProgram request h program) → code ≡ code_of program → request.procs ≡ 1 → 0 < request.modulus →
     HasNoStranger schedule 1 → old.taken ≤ limit → (result ≢ Err stream.TooLong → new.taken ≤ limit)
@@ -277,7 +281,8 @@ run_told schedule request code old new before after out out' h program leaves fi
       meets = λ rest tells.
           let goes : IsOver after → rest ≡ [] = over_left after rest tells in
           run_meets a_first (IsConvolveText (with_tree request made.tree)) request.size request.modulus old new r.read rest
-          after.told.ended (h ∷ []) s.later [] (λ x. line_of (results code x turns)) told out out out' (Appends-nil out) result refl tt
+          after.told.ended (h ∷ []) s.later [] (λ x. line_of (results code x turns)) told out out out'
+          (Appends-nil out) result refl tt
           (reads_more request.size request.modulus old new r.read (IsOver after) (rest ≡ []) (h ∷ s.later) result
           goes r.answer)
           (r.answers start rest goes) s.wrote ends

@@ -108,7 +108,8 @@ compile_told m before after out out' taken read text listing consumed few count 
     text_told (line 65536) written (compile_work m) (line_is_front 65536) before after after out out' taken read text
     made.0 Success consumed few count whole short made.1 (none_few (limit - taken))
     (unread_meets work after out out' Success (λ bytes.
-    answered_meets work bytes bytes after.told.ended out out' Success (λ d. (listing, (refl, made.2), wrote)) (λ e. cc) (λ e. cc)))
+    answered_meets work bytes bytes after.told.ended out out' Success (λ d. (listing, (refl, made.2), wrote))
+    (λ e. cc) (λ e. cc)))
 
 -- a front of it is written
 pub compile_cut : (m : ℕ) (before after : Coming) (out out' : Option (List ℕ)) (taken : ℕ) (read text listing : List ℕ)

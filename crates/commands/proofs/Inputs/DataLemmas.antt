@@ -135,17 +135,18 @@ module _ (wants : Wants) (IsText : List (List ℕ) → List ℕ → Type 0) (siz
       → Answers size modulus (limit - old.taken) (read ++ left) vectors result
       → Writes out out' result text later → (result ≢ Err stream.TooLong → new.taken ≤ limit) → IsToldAhead
       → Meets work (read ++ left) left ended start out' (status_of_stream result)
-  run_meets (Err stream.ReadFault) is on s seen wrote ends ahead = broken_meets work (read ++ left) left ended start out' (
-    read,
-    front ++ texts text later,
-    refl,
-    (
-      fine_by old.taken new.taken read s.0 (ends (λ e. cc)) s.1,
-      subst (ReadsOn wants) (sym s.2) on,
-      subst (λ (v : List (List ℕ)). IsText v (front ++ texts text later)) (sym s.2) told,
-    ),
-    Appends-trans start out out' front (texts text later) begun wrote,
-  )
+  run_meets (Err stream.ReadFault) is on s seen wrote ends ahead =
+      broken_meets work (read ++ left) left ended start out' (
+        read,
+        front ++ texts text later,
+        refl,
+        (
+          fine_by old.taken new.taken read s.0 (ends (λ e. cc)) s.1,
+          subst (ReadsOn wants) (sym s.2) on,
+          subst (λ (v : List (List ℕ)). IsText v (front ++ texts text later)) (sym s.2) told,
+        ),
+        Appends-trans start out out' front (texts text later) begun wrote,
+      )
   run_meets (Err stream.WriteFault) is on s seen wrote ends ahead = run_stops ahead wrote s (ends (λ e. cc))
   run_meets result is on s seen wrote ends ahead =
       run_answers result (status_of_stream result) is seen wrote (λ e. cc) (λ e. cc)
@@ -168,7 +169,8 @@ streams_told IsText size modulus front text leaves old new before after start ou
       let goes : IsOver after → rest ≡ [] = over_left after rest tells in
       let made = reads_vectors size modulus old new s.read (IsOver after) s.vectors result s.answer in
       let Tells : List (List ℕ) → Type 0 = λ v. IsText v (front ++ texts text v) in
-      run_meets all IsText size modulus old new s.read rest after.told.ended [] s.vectors front text (subst Tells made.1 (writes made.0))
+      run_meets all IsText size modulus old new s.read rest after.told.ended [] s.vectors front text
+      (subst Tells made.1 (writes made.0))
       start out out' begun result refl tt
       (reads_more size modulus old new s.read (IsOver after) (rest ≡ []) s.vectors result goes s.answer)
       (s.answers within rest goes) s.wrote ends

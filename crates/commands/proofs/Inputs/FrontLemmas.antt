@@ -1,5 +1,6 @@
 -- From what comes after a front to the whole input.
-use Rattle.std.proofs.Common.{◌≡◌, ◌≢◌, ◌<◌, ◌≤◌, ◌+◌, ◌-◌, ◌⊎◌, Bool, ℕ, true, false, List, [], ◌∷◌, ◌++◌, Ok, Err, Result, nat_le}
+use Rattle.std.proofs.Common.{◌≡◌, ◌≢◌, ◌<◌, ◌≤◌, ◌+◌, ◌-◌, ◌⊎◌, Bool, ℕ, true, false, List, [], ◌∷◌, ◌++◌, Ok, Err}
+use Rattle.std.proofs.Common.{Result, nat_le}
 use Rattle.std.proofs.Common.{length, cond, refl, sym, ap, subst, ◌∙◌, arith, append_assoc, length-append, inl, inr}
 use Rattle.std.proofs.lemmas.Grind.{common_steps}
 use Rattle.std.proofs.KnownBytes.{Appends-nil}
@@ -118,8 +119,10 @@ front_meets {A} front is orders work bytes read rest taken value left was ended 
                 front = still_ended front is read found.0 was (ended ≡ true) stands stays;
                 gives = (asked.1 found.0 none).0;
               },
-              subst (λ n. (work value n).broken (front.behind (read ++ found.0)) (ended ≡ true) found.1) (room_after front read found.0 taken asked.0 (asked.1 found.0 none).1)
-                  (subst (λ b. (work value (limit - taken)).broken b (ended ≡ true) found.1) (sym (asked.1 found.0 none).1) found.3),
+              subst (λ n. (work value n).broken (front.behind (read ++ found.0)) (ended ≡ true) found.1)
+                  (room_after front read found.0 taken asked.0 (asked.1 found.0 none).1)
+                  (subst (λ b. (work value (limit - taken)).broken b (ended ≡ true) found.1)
+                  (sym (asked.1 found.0 none).1) found.3),
             ),
             found.4,
           );
@@ -256,7 +259,8 @@ module _ {A : Type 0} (front : Front) (orders : List ℕ → Stage A) (work : A 
       refusal.write
 
   -- its text orders a value, and after it this is right for the value's work
-  pub text_told : IsFront front → (before mid left : Coming) (out out' : Option (List ℕ)) (taken : ℕ) (read text : List ℕ)
+  pub text_told : IsFront front → (before mid left : Coming) (out out' : Option (List ℕ)) (taken : ℕ)
+      (read text : List ℕ)
       (value : A) (status : Status)
       → Consumes before mid read → length read ≤ limit → taken ≡ length read → IsWhole front read (IsOver mid) text
       → length text ≤ front.most → orders text (Ok value)

@@ -19,7 +19,8 @@ pub none_few : (room : ℕ) → 0 ≤ room + 1
 none_few room = omega arith
 
 -- of a call that no fault of the outside ends
-pub answered_meets : (outcomes : Outcomes) (bytes left : List ℕ) (ended : Bool) (out out' : Option (List ℕ)) (status : Status)
+pub answered_meets : (outcomes : Outcomes) (bytes left : List ℕ) (ended : Bool) (out out' : Option (List ℕ))
+    (status : Status)
     → (IsDefined status → (text : List ℕ) × outcomes.answer bytes status text × Appends out out' text)
     → status ≢ ReadFault → status ≢ WriteFault → Meets outcomes bytes left ended out out' status
 answered_meets outcomes bytes left ended out out' status right read write =
@@ -64,7 +65,8 @@ told_nothing outcomes before after out read consumed few = record {
   read = read;
   consumed = consumed;
   few = few;
-  meets = λ left tells. meets_nothing outcomes (read ++ left) left after.told.ended out NoMemory (λ d. absurd (d.memory refl)) (λ e. cc) (λ e. cc);
+  meets = λ left tells. meets_nothing outcomes (read ++ left) left after.told.ended out NoMemory
+      (λ d. absurd (d.memory refl)) (λ e. cc) (λ e. cc);
 }
 
 pub unread_nothing : (outcomes : Outcomes) (before : Coming) (out : Option (List ℕ))

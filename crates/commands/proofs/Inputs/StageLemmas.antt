@@ -11,22 +11,26 @@ use Rattle.commands.specs.Equations.Front.{Work, staged}
 use Rattle.commands.proofs.Inputs.OutcomeLemmas.{meets_nothing, unread_meets}
 
 -- the stage refuses
-pub stage_meets_nothing : {A : Type 0} (stage : Stage A) (work : A → Work) (room : ℕ) (bytes left : List ℕ) (ended : Bool)
+pub stage_meets_nothing : {A : Type 0} (stage : Stage A) (work : A → Work) (room : ℕ) (bytes left : List ℕ)
+    (ended : Bool)
     (out : Option (List ℕ)) (status : Status)
     → (IsDefined status → stage (Err status)) → IsRefusal status →
     Meets (staged stage work room) bytes left ended out out status
 stage_meets_nothing stage work room bytes left ended out status refused r =
     meets_nothing (staged stage work room) bytes left ended out status (λ d. inl (refused d, refl)) r.read r.write
 
-pub stage_refused : {A : Type 0} (stage : Stage A) (work : A → Work) (room : ℕ) (before : Coming) (out : Option (List ℕ))
+pub stage_refused : {A : Type 0} (stage : Stage A) (work : A → Work) (room : ℕ) (before : Coming)
+    (out : Option (List ℕ))
     (status : Status)
     → (IsDefined status → stage (Err status)) → IsRefusal status
     → SourceMeets (staged stage work room) before before out out status
 stage_refused stage work room before out status refused r =
-    unread_meets (staged stage work room) before out out status (λ bytes. stage_meets_nothing stage work room bytes bytes before.told.ended out status refused r)
+    unread_meets (staged stage work room) before out out status
+    (λ bytes. stage_meets_nothing stage work room bytes bytes before.told.ended out status refused r)
 
 -- it gives a value, and the work for this comes to that
-pub stage_meets : {A : Type 0} (stage : Stage A) (work : A → Work) (room : ℕ) (value : A) (bytes left : List ℕ) (ended : Bool)
+pub stage_meets : {A : Type 0} (stage : Stage A) (work : A → Work) (room : ℕ) (value : A) (bytes left : List ℕ)
+    (ended : Bool)
     (out out' : Option (List ℕ)) (status : Status)
     → stage (Ok value) → Meets (work value room) bytes left ended out out' status →
     Meets (staged stage work room) bytes left ended out out' status
@@ -44,5 +48,6 @@ stage_told stage work room value before left out out' status gives most p = reco
   read = p.read;
   consumed = p.consumed;
   few = let few : length p.read ≤ room + 1 = omega (arith, p.few, most) in few;
-  meets = λ rest tells. stage_meets stage work room value (p.read ++ rest) rest left.told.ended out out' status gives (p.meets rest tells);
+  meets = λ rest tells. stage_meets stage work room value (p.read ++ rest) rest left.told.ended out out' status gives
+      (p.meets rest tells);
 }

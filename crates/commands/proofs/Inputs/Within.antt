@@ -18,7 +18,8 @@ pub record Within (a b : Outcomes) : Type 1 where
   pub broken : (read : List ℕ) (ended : Type 0) (t : List ℕ) → a.broken read ended t → b.broken read ended t
   pub cut : (read left t taken : List ℕ) → a.cut read left t taken → b.cut read left t taken
 
-pub meets_within : (a b : Outcomes) (bytes left : List ℕ) (ended : Bool) (before after : Option (List ℕ)) (s : Status) → Within a b
+pub meets_within : (a b : Outcomes) (bytes left : List ℕ) (ended : Bool) (before after : Option (List ℕ))
+    (s : Status) → Within a b
     → Meets a bytes left ended before after s → Meets b bytes left ended before after s
 meets_within a b bytes left ended before after s w m = record {
   answer = λ defined. let p = m.answer defined in (p.0, w.answer bytes s p.0 p.1, p.2);

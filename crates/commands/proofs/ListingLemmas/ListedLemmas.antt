@@ -123,7 +123,8 @@ same_lines program turns passes (x ∷ vectors) =
 -- The call
 
 -- the listing is not read
-pub exec_unread : (schedule : Plan) (before after : Coming) (out : Option (List ℕ)) (taken : ℕ) (read : List ℕ) (fault : RestFault)
+pub exec_unread : (schedule : Plan) (before after : Coming) (out : Option (List ℕ)) (taken : ℕ) (read : List ℕ)
+    (fault : RestFault)
     → Consumes before after read → GivesPart 1048576 read (IsOver after) 0 taken (Err fault)
     → SourceMeets (exec_outcomes schedule) before after out out (status_of_part fault)
 exec_unread schedule before after out taken read rest_fault.TooLong consumed given =

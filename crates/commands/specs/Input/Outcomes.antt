@@ -19,8 +19,8 @@ pub record Outcomes : Type 1 where
   -- the text at which a write failed and what was taken of it, by the bytes that were read and those that are left
   pub cut : (read left text taken : List ℕ) → Type 0
 
--- status and output are right, by all the bytes that were to come, by those that are left of them, and by whether the source
--- has said that it ends
+-- status and output are right, by all the bytes that were to come, by those that are left of them, and by whether the
+-- source has said that it ends
 pub record Meets (outcomes : Outcomes) (bytes left : List ℕ) (ended : Bool) (before after : Option (List ℕ))
     (status : Status) : Type 0 where
   -- where nothing failed, they are an answer
@@ -39,4 +39,5 @@ pub record SourceMeets (outcomes : Outcomes) (source source' : Coming) (before a
   pub read : List ℕ
   pub consumed : Consumes source source' read
   pub few : length read ≤ outcomes.most
-  pub meets : (left : List ℕ) → Tells (known source') left → Meets outcomes (read ++ left) left source'.told.ended before after status
+  pub meets : (left : List ℕ) → Tells (known source') left →
+      Meets outcomes (read ++ left) left source'.told.ended before after status
