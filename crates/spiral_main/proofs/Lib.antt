@@ -2,6 +2,7 @@ pub mod Accounts
 pub mod Calls
 pub mod Generators
 pub mod Good
+pub mod Lines
 pub mod OneAnswer
 pub mod OnePlan
 pub mod OneSide

@@ -34,8 +34,8 @@ abbrev pub call_outcomes : List (List ℕ) → Outcomes
 call_outcomes = outcomes_for outcomes_of
 
 -- Status and output of a run, by all the bytes of its input, by those that are left of them, and by whether it has said
--- that it ends. Of the bytes that were
--- read no more than a block are held, of which nothing was used; after a failed read, none
+-- that it ends. Of the bytes that were read no more than a block are held, of which nothing was used; after a failed
+-- read, none
 pub record CallMeets (outcomes : Outcomes) (bytes left : List ℕ) (ended : Bool) (before after : Option (List ℕ))
     (status : Status) : Type 0 where
   pub held : List ℕ

@@ -17,6 +17,7 @@ ghost use Rattle.tree_model.specs.Breakdown.{Breakdown};
 ghost use Rattle.tree_model.specs.Chosen.{CanDivideWhole};
 
 pub mod answers;
+pub mod inputs;
 pub mod letters;
 pub mod rights;
 mod run;
