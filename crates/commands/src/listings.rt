@@ -1,7 +1,6 @@
 // The command that runs a listing.
 ghost use Rattle.std.specs.Prelude.{◌≡◌, ℕ, List, Ok, Err, IfOk, IfErr};
-ghost use Rattle.io_edge.specs.Told.{Consumes};
-ghost use Rattle.io_edge.specs.Told.{IsOver};
+ghost use Rattle.io_edge.specs.Told.{Consumes, IsOver};
 ghost use Rattle.io_edge.specs.Feed.{to_come};
 ghost use Rattle.icode.specs.Program.{Fits, plain_program};
 ghost use Rattle.commands.specs.Equations.Exec.{exec_outcomes};

@@ -1,7 +1,6 @@
 // Vectors of numbers from a source.
 ghost use Rattle.std.specs.Prelude.{All, ◌≡◌, ◌+◌, ◌≤◌, ◌<◌, ℕ, List, [], length, true, false, Ok, None, Err, ◌≢◌, IsErrOf};
-ghost use Rattle.io_edge.specs.Told.{Consumes};
-ghost use Rattle.io_edge.specs.Told.{IsOver};
+ghost use Rattle.io_edge.specs.Told.{Consumes, IsOver};
 ghost use Rattle.io_edge.specs.Faults.{Reports};
 ghost use Rattle.io_edge.specs.Feed.{to_come, limit};
 ghost use Rattle.data_stream.specs.Ending.{ending_of, fault_of};

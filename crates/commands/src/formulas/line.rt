@@ -1,7 +1,6 @@
 // The line of a formula, with which an input begins.
 ghost use Rattle.std.specs.Prelude.{◌≡◌, ℕ, ◌++◌, ◌∷◌, List, [], IsErrOf, OnOk};
-ghost use Rattle.io_edge.specs.Told.{Consumes};
-ghost use Rattle.io_edge.specs.Told.{IsOver};
+ghost use Rattle.io_edge.specs.Told.{Consumes, IsOver};
 ghost use Rattle.io_edge.specs.Faults.{Reports};
 ghost use Rattle.io_edge.specs.Feed.{to_come};
 ghost use Rattle.commands.specs.Input.Ends.{ReadsCleanly};
