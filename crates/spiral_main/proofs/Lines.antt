@@ -1,5 +1,5 @@
 -- What is known of the bytes that an input gave, by what a command for a request answers.
-use Rattle.std.proofs.Common.{◌≡◌, ◌≤◌, ◌<◌, ◌+◌, ◌||◌, Bool, true, false, ℕ, zero, suc, List, [], ◌∷◌, ◌++◌, None, Some}
+use Rattle.std.proofs.Common.{◌≡◌, ◌≤◌, ◌<◌, ◌+◌, ◌⊎◌, ◌||◌, Bool, true, false, ℕ, zero, suc, List, [], ◌∷◌, ◌++◌, None, Some}
 use Rattle.std.proofs.Common.{Err, Ok, Result, length, refl, sym, ap, subst, ◌∙◌, arith, append_assoc, append-nil, inl, inr}
 use Rattle.std.proofs.Common.{length-append}
 use Rattle.std.proofs.lemmas.Bool.{cases_Bool}
@@ -9,10 +9,8 @@ use Rattle.std.specs.List.{list_any}
 use Rattle.std.specs.Io.KnownBytes.{Appends}
 use Rattle.std.specs.declared.option.Option.{Option}
 use Rattle.commands.specs.Equations.Commands.{outcomes_of}
-use Rattle.commands.specs.Equations.Front.{Answer, Front, HasEnded, answered, by_front, is_line_end, line, ordered}
-use Rattle.commands.specs.Equations.Front.{taken_from}
-use Rattle.commands.specs.Input.Outcomes.{Outcomes}
-use Rattle.commands.specs.Input.Stage.{GoesOn, IsAnswerBy, IsBrokenBy, Stage, given, ◌>>=◌}
+use Rattle.commands.specs.Equations.Front.{Front, HasEnded, is_line_end, line, ordered}
+use Rattle.commands.specs.Input.Stage.{HasGiven, Stage}
 use Rattle.commands.proofs.Inputs.FrontLemmas.{front_long}
 use Rattle.commands.proofs.Inputs.LineLemmas.{line_longer}
 use Rattle.commands.proofs.Inputs.Stages.{done_ended}
@@ -47,27 +45,29 @@ open_is (suc n) = open_is n
 
 -- ---- a line that is too long has no answer but that
 
-too_long : {A : Type 0} (front : Front) (orders : List ℕ → Stage A) (settles : A → ℕ → Answer) (bytes text : List ℕ)
-    → front.most < length (front.first bytes) → answered front orders settles bytes Success text → ⊥
-too_long front orders settles bytes text long (inl (inl is, none)) =
+too_long : {A : Type 0} (front : Front) (orders : List ℕ → Stage A) (Refuses : Type 0) (Settles : A → Type 0)
+    (bytes : List ℕ) → front.most < length (front.first bytes)
+    → (ordered front orders bytes (Err Success) × Refuses)
+    ⊎ ((value : A) × ordered front orders bytes (Ok value) × Settles value) → ⊥
+too_long front orders Refuses Settles bytes long (inl (inl is, refuses)) =
     let wrong = is ∙ front_long front bytes long in absurd (cc)
-too_long front orders settles bytes text long (inl (inr on, none)) =
+too_long front orders Refuses Settles bytes long (inl (inr on, refuses)) =
     done_ended on.value (TooLong front.most) (on.before ∙ front_long front bytes long)
-too_long front orders settles bytes text long (inr (value, on, right)) =
+too_long front orders Refuses Settles bytes long (inr (value, on, right)) =
     done_ended on.value (TooLong front.most) (on.before ∙ front_long front bytes long)
 
 -- of every command for a request
 no_answer : (command : RequestCommand) (bytes text : List ℕ) → 256 < length ((line 256).first bytes)
     → (outcomes_of (ByRequest command)).answer bytes Success text → ⊥
-no_answer (Writes document.Plan) bytes text long = too_long (line 256) _ _ bytes text long
-no_answer (Writes document.Formula) bytes text long = too_long (line 256) _ _ bytes text long
-no_answer (Writes document.Code) bytes text long = too_long (line 256) _ _ bytes text long
-no_answer (Writes document.C) bytes text long = too_long (line 256) _ _ bytes text long
-no_answer (Writes document.Cert) bytes text long = too_long (line 256) _ _ bytes text long
-no_answer (Writes (document.Sample seed schedule)) bytes text long = too_long (line 256) _ _ bytes text long
-no_answer (Runs order) bytes text long = too_long (line 256) _ _ bytes text long
-no_answer (Traces order) bytes text long = too_long (line 256) _ _ bytes text long
-no_answer Judges bytes text long = too_long (line 256) _ _ bytes text long
+no_answer (Writes document.Plan) bytes text long p = too_long (line 256) _ _ _ bytes long p
+no_answer (Writes document.Formula) bytes text long p = too_long (line 256) _ _ _ bytes long p
+no_answer (Writes document.Code) bytes text long p = too_long (line 256) _ _ _ bytes long p
+no_answer (Writes document.C) bytes text long p = too_long (line 256) _ _ _ bytes long p
+no_answer (Writes document.Cert) bytes text long p = too_long (line 256) _ _ _ bytes long p
+no_answer (Writes (document.Sample seed schedule)) bytes text long p = too_long (line 256) _ _ _ bytes long p
+no_answer (Runs order) bytes text long p = too_long (line 256) _ _ _ bytes long p
+no_answer (Traces order) bytes text long p = too_long (line 256) _ _ _ bytes long p
+no_answer Judges bytes text long p = too_long (line 256) _ _ _ bytes long p
 
 success_is_defined : IsDefined Success
 success_is_defined = record { read = λ e. cc; write = λ e. cc; memory = λ e. cc }
@@ -110,12 +110,12 @@ lines_have_come words command input input' before after bytes asked silent p is 
 
 -- ---- a line that may go on has no text
 
-open_front : {A : Type 0} (read : List ℕ) (ended unended : Type 0) (stage : Stage A)
-    (BreaksOff : A → List ℕ → Type 0) (text : List ℕ)
-    → list_any is_line_end read ≡ false → (ended → ⊥)
-    → IsBrokenBy unended (HasEnded (line 256) read ended) stage BreaksOff text → text ≡ []
-open_front read ended unended stage BreaksOff text none no (inl (goes, is)) = is
-open_front read ended unended stage BreaksOff text none no (inr (value, has, right)) = absurd (by_end has.front)
+open_front : {A : Type 0} (read : List ℕ) (ended Goes : Type 0) (stage : Stage A) (BreaksOff : A → Type 0)
+    (text : List ℕ) → list_any is_line_end read ≡ false → (ended → ⊥)
+    → (Goes × (text ≡ [])) ⊎ ((value : A) × HasGiven (HasEnded (line 256) read ended) stage value × BreaksOff value)
+    → text ≡ []
+open_front read ended Goes stage BreaksOff text none no (inl (goes, is)) = is
+open_front read ended Goes stage BreaksOff text none no (inr (value, has, right)) = absurd (by_end has.front)
   where
     by_end : HasEnded (line 256) read ended → ⊥
     by_end (inl there) = let wrong = sym none ∙ there in cc
