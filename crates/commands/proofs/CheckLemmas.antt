@@ -1,6 +1,6 @@
 -- What `check` comes to after the first line.
 use Rattle.std.proofs.Common.{◌≡◌, ◌<◌, ◌≤◌, ◌+◌, ℕ, List, [], ◌++◌, Ok, Err, Vec, Global, length, refl, sym, ap}
-use Rattle.std.proofs.Common.{subst, ◌∙◌, arith, append-nil, length-append, inl, inr}
+use Rattle.std.proofs.Common.{Bool, subst, ◌∙◌, arith, append-nil, length-append, inl, inr}
 use Rattle.std.proofs.KnownBytes.{Appends-nil}
 use Rattle.std.specs.declared.option.Option.{Option}
 use Rattle.std.specs.Io.KnownBytes.{Appends}

@@ -1,5 +1,5 @@
 -- The texts that are written for a request alone.
-use Rattle.std.proofs.Common.{◌≡◌, ℕ, List, [], Ok, refl, ap, subst, ◌∙◌}
+use Rattle.std.proofs.Common.{Bool, ◌≡◌, ℕ, List, [], Ok, refl, ap, subst, ◌∙◌}
 use Rattle.std.specs.declared.option.Option.{Option}
 use Rattle.std.specs.Io.KnownBytes.{Appends}
 use Rattle.plan_cert.specs.Table.{IsTableText}

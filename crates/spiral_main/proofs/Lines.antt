@@ -114,25 +114,25 @@ open_front : {A : Type 0} (read : List ℕ) (ended Goes : Type 0) (stage : Stage
     (text : List ℕ) → list_any is_line_end read ≡ false → (ended → ⊥)
     → (Goes × (text ≡ [])) ⊎ ((value : A) × HasGiven (HasEnded (line 256) read ended) stage value × BreaksOff value)
     → text ≡ []
-open_front read ended Goes stage BreaksOff text none no (inl (goes, is)) = is
-open_front read ended Goes stage BreaksOff text none no (inr (value, has, right)) = absurd (by_end has.front)
+open_front read ended Goes stage BreaksOff text none never (inl (goes, is)) = is
+open_front read ended Goes stage BreaksOff text none never (inr (value, has, right)) = absurd (by_end has.front)
   where
     by_end : HasEnded (line 256) read ended → ⊥
     by_end (inl there) = let wrong = sym none ∙ there in cc
-    by_end (inr e) = no e
+    by_end (inr e) = never e
 
 -- of every command for a request
 no_text : (command : RequestCommand) (read text : List ℕ) (ended : Type 0) → list_any is_line_end read ≡ false
     → (ended → ⊥) → (outcomes_of (ByRequest command)).broken read ended text → text ≡ []
-no_text (Writes document.Plan) read text ended none no p = open_front read ended _ _ _ text none no p
-no_text (Writes document.Formula) read text ended none no p = open_front read ended _ _ _ text none no p
-no_text (Writes document.Code) read text ended none no p = open_front read ended _ _ _ text none no p
-no_text (Writes document.C) read text ended none no p = open_front read ended _ _ _ text none no p
-no_text (Writes document.Cert) read text ended none no p = open_front read ended _ _ _ text none no p
-no_text (Writes (document.Sample seed schedule)) read text ended none no p = open_front read ended _ _ _ text none no p
-no_text (Runs order) read text ended none no p = open_front read ended _ _ _ text none no p
-no_text (Traces order) read text ended none no p = open_front read ended _ _ _ text none no p
-no_text Judges read text ended none no p = open_front read ended _ _ _ text none no p
+no_text (Writes document.Plan) read text ended none never p = open_front read ended _ _ _ text none never p
+no_text (Writes document.Formula) read text ended none never p = open_front read ended _ _ _ text none never p
+no_text (Writes document.Code) read text ended none never p = open_front read ended _ _ _ text none never p
+no_text (Writes document.C) read text ended none never p = open_front read ended _ _ _ text none never p
+no_text (Writes document.Cert) read text ended none never p = open_front read ended _ _ _ text none never p
+no_text (Writes (document.Sample seed schedule)) read text ended none never p = open_front read ended _ _ _ text none never p
+no_text (Runs order) read text ended none never p = open_front read ended _ _ _ text none never p
+no_text (Traces order) read text ended none never p = open_front read ended _ _ _ text none never p
+no_text Judges read text ended none never p = open_front read ended _ _ _ text none never p
 
 -- something may be left
 some_left : (rest : Option (List ℕ)) → (left : List ℕ) × Tells rest left
@@ -140,13 +140,13 @@ some_left None = ([], tt)
 some_left (Some left) = (left, refl)
 
 not_ended : (ended : Bool) → ended ≡ false → ended ≡ true → ⊥
-not_ended ended no yes = let wrong = sym no ∙ yes in cc
+not_ended ended fresh ends = let wrong = sym fresh ∙ ends in cc
 
 pub open_lines_leave_nothing : (words : List (List ℕ)) (command : RequestCommand) (input input' : Told)
     (before after : Option (List ℕ)) (bytes : List ℕ) → IsAsked words (ByRequest command)
     → AccountsFor words input input' before after ReadFault → input'.given ≡ input.given ++ bytes
     → list_any is_line_end bytes ≡ false → input'.ended ≡ false → Appends before after []
-open_lines_leave_nothing words command input input' before after bytes asked p is none no =
+open_lines_leave_nothing words command input input' before after bytes asked p is none fresh =
     let left = some_left (rest_of input') in
     let found = (p.meets left.0 left.1).read_fault refl in
     let own = same_given words input input' before after ReadFault bytes p is in
@@ -157,5 +157,5 @@ open_lines_leave_nothing words command input input' before after bytes asked p i
     let same = asked_once words found.3.0 (ByRequest command) found.3.1 asked in
     let mine = subst (λ (c : Command). (outcomes_of c).broken found.0 (input'.ended ≡ true) found.1) same broken in
     let nothing = no_text command found.0 found.1 (input'.ended ≡ true)
-    (subst (λ (l : List ℕ). list_any is_line_end l ≡ false) (sym (used ∙ all)) none) (not_ended input'.ended no) mine in
+    (subst (λ (l : List ℕ). list_any is_line_end l ≡ false) (sym (used ∙ all)) none) (not_ended input'.ended fresh) mine in
     subst (λ (t : List ℕ). Appends before after t) nothing found.4

@@ -8,7 +8,7 @@ use Rattle.commands.specs.Formulas.Letters.{program_for}
 use Rattle.listing_text.specs.Listing.{listing_of}
 use Rattle.spiral_main.specs.OneText.{Answers, CompilesOne, ConvolvesByOne, PrintsOne, TracesOne}
 use Rattle.spiral_main.proofs.Calls.{outcome_of}
-use Rattle.spiral_words.specs.Asked.{Means}
+use Rattle.spiral_words.specs.Asked.{IsAsked, Means}
 use Rattle.spiral_words.specs.CommandLine.{Options}
 use Rattle.spiral_words.specs.declared.Command.{Command}
 use Rattle.spiral_words.specs.declared.Command.TheVariants as command
@@ -21,7 +21,7 @@ answers_of : (name : List ℕ) (wanted : Command) (Asks : Options → Type 0)
     → ((options : Options) → Asks options → Means name options wanted)
     → Answers name Asks (outcomes_of wanted).answer
 answers_of name wanted Asks means words options bytes status text found asked =
-    let wants = (name, options, found, means options asked) in (
+    let wants : IsAsked words wanted = (name, options, found, means options asked) in (
       λ p. outcome_of words bytes wanted status text wants p,
       λ p. inr (wanted, wants, p),
     )
@@ -54,5 +54,5 @@ pub convolves_by_one : ConvolvesByOne
 convolves_by_one = record {
   program = conv_emission;
   answers = λ schedule. answers_of (codes "convolve") (command.ByList schedule true) _
-      (λ options asked. (refl, (asked.0, asked.1)));
+      (λ options asked. (refl, asked.0, asked.1));
 }

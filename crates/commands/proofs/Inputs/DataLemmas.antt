@@ -1,6 +1,6 @@
 -- What a run over data answers, reads and writes, by the texts of its vectors.
 use Rattle.std.proofs.Common.{◌≡◌, ◌≢◌, ◌≤◌, ◌+◌, ◌-◌, ℕ, true, List, [], ◌∷◌, ◌++◌, Ok, Err, Result, refl, sym, ap}
-use Rattle.std.proofs.Common.{subst, ◌<◌, ◌*◌, zero, suc, length, take, drop, ap₂, ◌∙◌, arith, append_assoc, inl, inr}
+use Rattle.std.proofs.Common.{Bool, subst, ◌<◌, ◌*◌, zero, suc, length, take, drop, ap₂, ◌∙◌, arith, append_assoc, inl, inr}
 use Rattle.std.proofs.Common.{length-append}
 use Rattle.std.proofs.KnownBytes.{Appends-trans}
 use Rattle.std.specs.List.{list_all, All}
@@ -9,7 +9,7 @@ use Rattle.std.specs.Io.KnownBytes.{Appends}
 use Rattle.std.proofs.lemmas.List.Elements.{All-from_get_or}
 use Rattle.std.proofs.lemmas.List.{length-take-le, length-drop, length-map}
 use Rattle.io_edge.specs.Feed.{Fed, limit}
-use Rattle.io_edge.specs.Told.{IsOver}
+use Rattle.io_edge.specs.Told.{Coming, IsOver}
 use Rattle.data_stream.specs.Data.{tokens, closed_part, is_good}
 use Rattle.data_stream.specs.Line.{line_of}
 use Rattle.data_stream.specs.Reading.{GoesOver, residues}
@@ -153,7 +153,7 @@ module _ (wants : Wants) (IsText : List (List ℕ) → List ℕ → Type 0) (siz
 
 -- after the front, the texts of whole vectors are texts of them
 pub streams_told : {S : Type 0} (IsText : List (List ℕ) → List ℕ → Type 0) (size modulus : ℕ) (front : List ℕ)
-    (text : List ℕ → List ℕ) (leaves : List ℕ → S) (old new : Fed) (before after start out out' : Option (List ℕ))
+    (text : List ℕ → List ℕ) (leaves : List ℕ → S) (old new : Fed) (before after : Coming) (start out out' : Option (List ℕ))
     (first last : S)
     (result : Result (Unit {0}) StreamFault)
     → ((ts : List (List ℕ)) → IsText (vectors_of size modulus ts) (front ++ texts text (vectors_of size modulus ts))) →

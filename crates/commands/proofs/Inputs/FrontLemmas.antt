@@ -48,9 +48,9 @@ stands_alone front read byte over (inr wrong) = absurd (cc)
 -- one behind which everything is known has ended by its own end, or the input is over
 stands_by : (front : Front) → IsFront front → (read : List ℕ) (over : Type 0) → over ⊎ (over → ⊥) →
     ((more : List ℕ) → (over → more ≡ []) → front.behind (read ++ more) ≡ more) → HasEnded front read over
-stands_by front is read over (inl yes) behind = inr yes
-stands_by front is read over (inr no) behind = stands_alone front read 0 over
-    (is.there read (0 ∷ []) (λ more none. behind more (λ yes. absurd (no yes))))
+stands_by front is read over (inl there) behind = inr there
+stands_by front is read over (inr never) behind = stands_alone front read 0 over
+    (is.there read (0 ∷ []) (λ more none. behind more (λ there. absurd (never there))))
 
 -- as many bytes may come after it as the limit leaves after what was taken for it
 room_after : (front : Front) (read more : List ℕ) (taken : ℕ) → taken ≡ length read →
