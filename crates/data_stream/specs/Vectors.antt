@@ -1,6 +1,5 @@
 -- What `Vectors` is to a contract.
-use Rattle.std.specs.Prelude.{◌≡◌, ℕ, ◌≤◌, Bool, true, List}
-use Rattle.std.specs.declared.option.Option.{Option}
+use Rattle.std.specs.Prelude.{◌≡◌, ℕ, ◌≤◌, Bool, true}
 use Rattle.io_edge.specs.Told.{Coming, IsOver}
 use Rattle.io_edge.specs.Feed.{Fed, limit}
 

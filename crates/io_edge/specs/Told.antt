@@ -1,5 +1,5 @@
 -- What a source tells of its bytes, and what is to come of it through a feed.
-use Rattle.std.specs.Prelude.{◌≡◌, Bool, true, false, ℕ, List, [], ◌++◌, length, take, None, Some, MatchResult, Result}
+use Rattle.std.specs.Prelude.{◌≡◌, Bool, true, false, ℕ, List, [], ◌++◌, take, None, Some, MatchResult, Result}
 use Rattle.std.specs.declared.option.Option.{Option}
 use Rattle.std.specs.Io.KnownBytes.{prepend_known}
 use Rattle.std.specs.Io.KnownBytes as known_bytes

@@ -1,6 +1,6 @@
 -- From what a command does to the account of the whole call.
-use Rattle.std.proofs.Common.{◌≡◌, ◌≤◌, ◌++◌, ℕ, List, [], None, Some, Err, length, refl, sym, ap, subst, ◌∙◌, inl, inr}
-use Rattle.std.proofs.Common.{◌+◌, append-nil, append_assoc, arith, false, length-append, true}
+use Rattle.std.proofs.Common.{◌≡◌, ◌≤◌, ◌++◌, ℕ, List, [], Some, Err, length, refl, sym, ap, subst, inl, inr}
+use Rattle.std.proofs.Common.{◌+◌, append_assoc, arith, false, length-append, true}
 use Rattle.std.specs.declared.option.Option.{Option}
 use Rattle.io_edge.specs.Feed.{Fed, limit, most_held, to_come}
 use Rattle.io_edge.specs.Told.{Tells, Told, rest_of}

@@ -1,7 +1,6 @@
 -- From the first line to a request.
 use Rattle.std.proofs.Common.{◌≡◌, ◌≢◌, ◌≤◌, ℕ, List, take, None, Some, Ok, Err, length, length-take, sym, ap}
 use Rattle.std.proofs.Common.{arith, inl, inr}
-use Rattle.std.specs.declared.option.Option.{Option}
 use Rattle.io_edge.specs.Told.{Coming, Consumes, IsOver}
 use Rattle.io_edge.specs.Feed.{limit}
 use Rattle.matrix_meaning.specs.declared.Request.{Request}

@@ -1,6 +1,5 @@
 -- From the front of an input to what it orders.
 use Rattle.std.specs.Prelude.{◌≡◌, ◌≤◌, ℕ, List, [], ◌++◌, length, Ok, Err, Result}
-use Rattle.std.specs.declared.option.Option.{Option}
 use Rattle.io_edge.specs.Told.{Coming, Consumes, IsOver}
 use Rattle.io_edge.specs.Feed.{limit}
 use Rattle.matrix_meaning.specs.declared.Request.{Request}

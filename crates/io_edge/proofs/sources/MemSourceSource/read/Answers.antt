@@ -1,4 +1,4 @@
-use Rattle.std.proofs.Common.{rules, arith, ap, ◌≡◌, ◌∙◌, true, length, take, ◌≤◌, ◌+◌, subst}
+use Rattle.std.proofs.Common.{rules, arith, ◌≡◌, ◌∙◌, true, length, take, ◌≤◌, ◌+◌, subst}
 use Rattle.std.proofs.lemmas.Grind.{common_steps}
 use Rattle.io_edge.specs.Memory.{Supply, told_of}
 use Rattle.io_edge.specs.Told.{Gives}
