@@ -1,5 +1,5 @@
 -- The texts that are written for a request alone.
-use Rattle.std.proofs.Common.{◌≡◌, ℕ, List, [], Ok, refl, ap, subst, ◌∙◌}
+use Rattle.std.proofs.Common.{Bool, ◌≡◌, ℕ, List, [], Ok, refl, ap, subst, ◌∙◌}
 use Rattle.std.specs.declared.option.Option.{Option}
 use Rattle.std.specs.Io.KnownBytes.{Appends}
 use Rattle.plan_cert.specs.Table.{IsTableText}
@@ -58,20 +58,21 @@ c_document request program text made told =
 
 -- What the command comes to
 
-pub document_meets : (wanted : Document) (request : Request) (room : ℕ) (bytes left : List ℕ)
+pub document_meets : (wanted : Document) (request : Request) (room : ℕ) (bytes left : List ℕ) (ended : Bool)
     (out out' : Option (List ℕ)) (text : List ℕ)
     → IsDocument wanted request text → Appends out out' text
-    → Meets (staged (chosen request) (document_work wanted) room) bytes left out out' Success
-document_meets wanted request room bytes left out out' text is wrote =
-    stage_meets (chosen request) (document_work wanted) room is.0 bytes left out out' Success is.1
-    (answered_meets (document_work wanted is.0 room) bytes left out out' Success
+    → Meets (staged (chosen request) (document_work wanted) room) bytes left ended out out' Success
+document_meets wanted request room bytes left ended out out' text is wrote =
+    stage_meets (chosen request) (document_work wanted) room is.0 bytes left ended out out' Success is.1
+    (answered_meets (document_work wanted is.0 room) bytes left ended out out' Success
     (λ d. (text, (refl, is.2), wrote)) (λ e. cc) (λ e. cc))
 
 -- a text that is not written whole
-pub document_cut : (wanted : Document) (request : Request) (room : ℕ) (bytes : List ℕ) (out out' : Option (List ℕ))
+pub document_cut : (wanted : Document) (request : Request) (room : ℕ) (bytes : List ℕ) (ended : Bool)
+    (out out' : Option (List ℕ))
     (text : List ℕ)
     → IsDocument wanted request text → AppendsPrefix out out' text
-    → Meets (staged (chosen request) (document_work wanted) room) bytes bytes out out' WriteFault
-document_cut wanted request room bytes out out' text is wrote =
-    stage_meets (chosen request) (document_work wanted) room is.0 bytes bytes out out' WriteFault is.1
-    (cut_meets (document_work wanted is.0 room) [] bytes text out out' wrote (refl, is.2))
+    → Meets (staged (chosen request) (document_work wanted) room) bytes bytes ended out out' WriteFault
+document_cut wanted request room bytes ended out out' text is wrote =
+    stage_meets (chosen request) (document_work wanted) room is.0 bytes bytes ended out out' WriteFault is.1
+    (cut_meets (document_work wanted is.0 room) [] bytes ended text out out' wrote (refl, is.2))

@@ -4,6 +4,7 @@ use Rattle.std.proofs.Common.{length, map, refl, sym, ap, subst, ◌∙◌, arit
 use Rattle.std.proofs.Math.Nat.{div-mul-le_self}
 use Rattle.std.specs.List.{All}
 use Rattle.std.specs.declared.option.Option.{Option}
+use Rattle.io_edge.specs.Told.{Coming}
 use Rattle.icode.proofs.BufferedRuns.{memory_of_buffered}
 use Rattle.icode.proofs.Lists.{code_is}
 use Rattle.icode.proofs.Runs.{memory_of_runs}
@@ -119,7 +120,7 @@ order_lines (order.Mixed mix) request program ts in_range made none = buffered_l
 
 -- the program's data are those of its request
 sized : (request : Request) (program : Program) (IsText : List (List ℕ) → List ℕ → Type 0) (room : ℕ)
-    (before after out out' : Option (List ℕ)) (status : Status)
+    (before after : Coming) (out out' : Option (List ℕ)) (status : Status)
     → IsInRange request → IsProgramFor request program → SourceMeets
     (mapping all program.size program.modulus IsText room) before after out out' status
     → SourceMeets (mapping all request.size request.modulus IsText room) before after out out' status
@@ -128,7 +129,7 @@ sized request program IsText room before after out out' status in_range made p =
     (subst (λ n. SourceMeets (mapping all n program.modulus IsText room) before after out out' status) (program_size request program in_range made) p)
 
 pub run_told : (request : Request) (program : Program) (front : Vec ℕ Global) (way : Order) (room : ℕ)
-    (before after out out' : Option (List ℕ)) (status : Status)
+    (before after : Coming) (out out' : Option (List ℕ)) (status : Status)
     → IsInRange request → IsProgramFor request program → first_stranger (procs_in way) request.procs ≡ None →
     front.items ≡ []
     → SourceMeets (stream_work (record { program = program; front = front; lines = false }) way room) before after out out' status
@@ -144,7 +145,7 @@ run_told request program front way room before after out out' status in_range ma
     (sized request program Writes room before after out out' status in_range made p))
 
 pub trace_told : (request : Request) (program : Program) (front : Vec ℕ Global) (way : Order) (room : ℕ)
-    (before after out out' : Option (List ℕ)) (status : Status)
+    (before after : Coming) (out out' : Option (List ℕ)) (status : Status)
     → IsInRange request → IsProgramFor request program → front.items ≡ listing_of (plain_program program)
     → SourceMeets (stream_work (record { program = program; front = front; lines = true }) way room) before after out out' status
     → SourceMeets (work_for (command.Traces way) request room) before after out out' status

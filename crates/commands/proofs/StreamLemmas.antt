@@ -3,6 +3,7 @@ use Rattle.std.proofs.Common.{◌≡◌, ◌≢◌, ◌<◌, ◌≤◌, ◌-◌,
 use Rattle.std.proofs.Common.{length, refl, sym, ap, subst, ◌∙◌, arith, append-nil, nat_lt, inl, inr, take}
 use Rattle.std.specs.declared.option.Option.{Option}
 use Rattle.std.specs.Io.KnownBytes.{Appends}
+use Rattle.io_edge.specs.Told.{Coming}
 use Rattle.buffer_machine.specs.Listed as listed
 use Rattle.buffer_machine.specs.declared.Events.{Events}
 use Rattle.buffer_machine.specs.declared.Events.TheVariants as events
@@ -37,7 +38,7 @@ use Rattle.commands.proofs.Inputs.Within.{Within}
 
 -- The front is not written whole
 
-pub front_cut : (made : Prepared) (way : Order) (room : ℕ) (before out out' : Option (List ℕ))
+pub front_cut : (made : Prepared) (way : Order) (room : ℕ) (before : Coming) (out out' : Option (List ℕ))
     → AppendsPrefix out out' made.front.items
     → SourceMeets (stream_work made way room) before before out out' WriteFault
 front_cut made way room before out out' wrote =
@@ -48,7 +49,7 @@ front_cut made way room before out out' wrote =
     let alone : made.front.items ≡ stream_text made way (vectors_of size modulus []) =
     sym (ap (stream_text made way) none ∙ append-nil made.front.items) in
     unread_meets (stream_work made way room) before out out' WriteFault (λ bytes.
-    cut_meets (stream_work made way room) [] bytes made.front.items out out' wrote
+    cut_meets (stream_work made way room) [] bytes before.told.ended made.front.items out out' wrote
     (record { few = omega arith; good = refl }, inl refl, alone, inl refl))
 
 -- The machines
@@ -59,7 +60,7 @@ work_by front code text = mapping all code.size code.modulus (λ vectors t. t �
 
 -- a stream of the program's code
 of_code : (front : List ℕ) (code : Code) (program : Program) (text : Code → List ℕ → List ℕ) (room : ℕ)
-    (before after start out' : Option (List ℕ))
+    (before after : Coming) (start out' : Option (List ℕ))
     (result : Result (Unit {0}) StreamFault)
     → code ≡ code_of program
     → SourceMeets (work_by front code text room) before after start out' (status_of_stream result)
@@ -74,7 +75,7 @@ code_has_size code program same =
     omega (arith, size, program.header.of_size.0)
 
 pub turns_told : (made : Prepared) (schedule : Plan) (code : Code) (old new : Fed)
-    (before after start out out' : Option (List ℕ)) (first last : State)
+    (before after : Coming) (start out out' : Option (List ℕ)) (first last : State)
     (result : Result (Unit {0}) StreamFault)
     → code ≡ code_of made.program → Appends start out made.front.items → old.taken ≤ limit →
     (result ≢ Err stream.TooLong → new.taken ≤ limit)
@@ -95,7 +96,7 @@ events_text asked (events.Turns schedule) procs code = refl
 events_text asked (events.Mixed mix) procs code = refl
 
 pub events_told : (made : Prepared) (word : Events) (code : Code) (old new : Fed)
-    (before after start out out' : Option (List ℕ)) (first last : Buffered)
+    (before after : Coming) (start out out' : Option (List ℕ)) (first last : Buffered)
     (result : Result (Unit {0}) StreamFault)
     → code ≡ code_of made.program → Appends start out made.front.items → old.taken ≤ limit →
     (result ≢ Err stream.TooLong → new.taken ≤ limit)

@@ -41,10 +41,10 @@ pub(crate) fn check<I: Source, O: Sink>(
     requires in_range { IsInRange request.now }
     requires line { feed.old.taken ≤ 257 }
     ensures told { SourceMeets (work_for RequestCommand.Judges request.now (limit - feed.old.taken))
-        (to_come feed.old (I.left input.old)) (to_come feed.new (I.left input.new))
+        (to_come feed.old (I.told input.old)) (to_come feed.new (I.told input.new))
         (O.taken output.old) (O.taken output.new) (status_of result) }
     ensures end { status_of result ≡ Status.Success
-        → IsOver (to_come feed.new (I.left input.new)) }
+        → IsOver (to_come feed.new (I.told input.new)) }
     ensures ends { EndsCleanly (status_of result) feed.new.held
         (I.faults input.old) (I.faults input.new) (O.faults output.old) (O.faults output.new)
         (O.taken output.old) (O.taken output.new) }

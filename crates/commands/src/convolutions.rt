@@ -42,7 +42,7 @@ fn ask_conv<I: Source>(
 ) -> Result<Request, Status>
     requires fresh { feed.old.taken ≡ 0 }
     ensures told { Asks (fronts.line 256) (conv_spelt_for (named schedule.now))
-        (to_come feed.old (I.left input.old)) (to_come feed.new (I.left input.new))
+        (to_come feed.old (I.told input.old)) (to_come feed.new (I.told input.new))
         feed.new.taken result }
     ensures within { OnOk result (feed.new.taken ≤ 257) }
     ensures request { IfOk result IsConvRequest }
@@ -67,17 +67,17 @@ fn listed_program<I: Source>(
     requires within { feed.old.taken ≤ limit }
     ensures program { IfOk result (λ made. IsListProgram request.now made.2.items made.0) }
     ensures come { IfOk result (λ made. HasCome request.now.modulus made.1 feed.old feed.new
-        (to_come feed.old (I.left input.old)) (to_come feed.new (I.left input.new))
+        (to_come feed.old (I.told input.old)) (to_come feed.new (I.told input.new))
         (made.2.items ∷ [])) }
     ensures ready { IfOk result (λ made.
-        IsReady made.1 feed.new (to_come feed.new (I.left input.new))) }
+        IsReady made.1 feed.new (to_come feed.new (I.told input.new))) }
     ensures cut { IfOk result (λ made. made.1.size ≡ request.now.size) }
     ensures room { IfOk result (λ made. vec_len made.2 ≡ request.now.size) }
     ensures within { OnOk result (feed.new.taken ≤ limit) }
     ensures told { IfErr result (λ status. (code : Bool) (out : Option (List ℕ)) →
         SourceMeets (work_by_list code request.now (limit - feed.old.taken))
-        (to_come feed.old (I.left input.old))
-        (to_come feed.new (I.left input.new)) out out status) }
+        (to_come feed.old (I.told input.old))
+        (to_come feed.new (I.told input.new)) out out status) }
     ensures ends { ReadsCleanly result feed.new.held (I.faults input.old) (I.faults input.new) }
 {
     let plan = plan_conv(alloc, request)?;
@@ -100,7 +100,7 @@ fn print_convolver<I: Source, O: Sink>(
     requires request { IsConvRequest request.now }
     requires within { feed.old.taken ≤ limit }
     ensures told { SourceMeets (work_by_list true request.now (limit - feed.old.taken))
-        (to_come feed.old (I.left input.old)) (to_come feed.new (I.left input.new))
+        (to_come feed.old (I.told input.old)) (to_come feed.new (I.told input.new))
         (O.taken output.old) (O.taken output.new) (status_of result) }
     ensures ends { EndsCleanly (status_of result) feed.new.held
         (I.faults input.old) (I.faults input.new) (O.faults output.old) (O.faults output.new)
@@ -125,10 +125,10 @@ fn run_convolver<I: Source, O: Sink>(
     requires turns { HasNoStranger schedule.now 1 }
     requires within { feed.old.taken ≤ limit }
     ensures told { SourceMeets (work_by_list false request.now (limit - feed.old.taken))
-        (to_come feed.old (I.left input.old)) (to_come feed.new (I.left input.new))
+        (to_come feed.old (I.told input.old)) (to_come feed.new (I.told input.new))
         (O.taken output.old) (O.taken output.new) (status_of result) }
     ensures end { status_of result ≡ Status.Success
-        → IsOver (to_come feed.new (I.left input.new)) }
+        → IsOver (to_come feed.new (I.told input.new)) }
     ensures ends { EndsCleanly (status_of result) feed.new.held
         (I.faults input.old) (I.faults input.new) (O.faults output.old) (O.faults output.new)
         (O.taken output.old) (O.taken output.new) }
@@ -159,11 +159,11 @@ pub fn convolve<I: Source, O: Sink>(
 ) -> Result<(), Status>
     requires fresh { feed.old.taken ≡ 0 }
     ensures told { SourceMeets (outcomes_by_list schedule.now code)
-        (to_come feed.old (I.left input.old)) (to_come feed.new (I.left input.new))
+        (to_come feed.old (I.told input.old)) (to_come feed.new (I.told input.new))
         (O.taken output.old) (O.taken output.new) (status_of result) }
     ensures end { status_of result ≡ Status.Success
         → reads_rest (Command.ByList schedule.now code) ≡ true
-        → IsOver (to_come feed.new (I.left input.new)) }
+        → IsOver (to_come feed.new (I.told input.new)) }
     ensures ends { EndsCleanly (status_of result) feed.new.held
         (I.faults input.old) (I.faults input.new) (O.faults output.old) (O.faults output.new)
         (O.taken output.old) (O.taken output.new) }

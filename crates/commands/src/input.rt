@@ -32,7 +32,7 @@ pub(crate) fn ask<I: Source>(
 ) -> Result<Request, Status>
     requires fresh { feed.old.taken ≡ 0 }
     ensures told { Asks (fronts.line 256) (spelt_for (procs_named command.now))
-        (to_come feed.old (I.left input.old)) (to_come feed.new (I.left input.new)) feed.new.taken result }
+        (to_come feed.old (I.told input.old)) (to_come feed.new (I.told input.new)) feed.new.taken result }
     ensures within { OnOk result (feed.new.taken ≤ 257) }
     ensures request { IfOk result IsInRange }
     ensures turns { IfOk result (λ request. NamesNoStranger command.now request.procs) }

@@ -1,7 +1,7 @@
 //! The commands of a call, from the input to what they write: by a request, by a formula, by a listing and by a list.
 #![tactic(auto)]
 
-ghost use Rattle.std.specs.Prelude.{◌≡◌, ◌≢◌, ◌-◌, ◌≤◌, ℕ, List, [], true};
+ghost use Rattle.std.specs.Prelude.{◌≡◌, ◌≢◌, ◌-◌, ◌≤◌, Bool, ℕ, List, [], true};
 ghost use Rattle.std.specs.Io.KnownBytes.{Appends};
 ghost use Rattle.io_edge.specs.Told.{IsOver};
 ghost use Rattle.matrix_meaning.specs.Valid.{IsInRange};
@@ -45,8 +45,8 @@ fn write_text<O: Sink>(
 ) -> Result<(), Status>
     requires in_range { IsInRange request.now }
     requires turns { NamesNoStranger (RequestCommand.Writes document.now) request.now.procs }
-    ensures told { (room : ℕ) (bytes : List ℕ) →
-        Meets (work_for (RequestCommand.Writes document.now) request.now room) bytes bytes
+    ensures told { (room : ℕ) (bytes : List ℕ) (ended : Bool) →
+        Meets (work_for (RequestCommand.Writes document.now) request.now room) bytes bytes ended
         (O.taken output.old) (O.taken output.new) (status_of result) }
     ensures read { status_of result ≢ Status.ReadFault }
     ensures usage { status_of result ≢ Status.Usage }
@@ -73,11 +73,11 @@ fn perform_for<I: Source, O: Sink>(
     requires turns { NamesNoStranger command.now request.now.procs }
     requires line { feed.old.taken ≤ 257 }
     ensures told { SourceMeets (work_for command.now request.now (limit - feed.old.taken))
-        (to_come feed.old (I.left input.old)) (to_come feed.new (I.left input.new))
+        (to_come feed.old (I.told input.old)) (to_come feed.new (I.told input.new))
         (O.taken output.old) (O.taken output.new) (status_of result) }
     ensures end { status_of result ≡ Status.Success
         → reads_rest (Command.ByRequest command.now) ≡ true
-        → IsOver (to_come feed.new (I.left input.new)) }
+        → IsOver (to_come feed.new (I.told input.new)) }
     ensures ends { EndsCleanly (status_of result) feed.new.held
         (I.faults input.old) (I.faults input.new) (O.faults output.old) (O.faults output.new)
         (O.taken output.old) (O.taken output.new) }
@@ -100,11 +100,11 @@ pub fn perform<I: Source, O: Sink>(
 ) -> Result<(), Status>
     requires fresh { feed.old.taken ≡ 0 }
     ensures told { SourceMeets (outcomes_by_request command.now)
-        (to_come feed.old (I.left input.old)) (to_come feed.new (I.left input.new))
+        (to_come feed.old (I.told input.old)) (to_come feed.new (I.told input.new))
         (O.taken output.old) (O.taken output.new) (status_of result) }
     ensures end { status_of result ≡ Status.Success
         → reads_rest (Command.ByRequest command.now) ≡ true
-        → IsOver (to_come feed.new (I.left input.new)) }
+        → IsOver (to_come feed.new (I.told input.new)) }
     ensures ends { EndsCleanly (status_of result) feed.new.held
         (I.faults input.old) (I.faults input.new) (O.faults output.old) (O.faults output.new)
         (O.taken output.old) (O.taken output.new) }

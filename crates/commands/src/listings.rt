@@ -1,7 +1,6 @@
 // The command that runs a listing.
 ghost use Rattle.std.specs.Prelude.{◌≡◌, ℕ, List, Ok, Err, IfOk, IfErr};
-ghost use Rattle.std.specs.Io.KnownBytes.{Consumes};
-ghost use Rattle.io_edge.specs.Told.{IsOver};
+ghost use Rattle.io_edge.specs.Told.{Consumes, IsOver};
 ghost use Rattle.io_edge.specs.Feed.{to_come};
 ghost use Rattle.icode.specs.Program.{Fits, plain_program};
 ghost use Rattle.commands.specs.Equations.Exec.{exec_outcomes};
@@ -31,8 +30,8 @@ const LISTING_LIMIT: u64 = 1_048_576;
 fn listing_text<I: Source>(alloc: Global, feed: &mut Feed, input: &mut I) -> Result<Vec<u8>, Status>
     requires fresh { feed.old.taken ≡ 0 }
     ensures told { (read : List ℕ)
-        × Consumes (to_come feed.old (I.left input.old)) (to_come feed.new (I.left input.new)) read
-        × GivesListing read (IsOver (to_come feed.new (I.left input.new))) feed.new.taken result }
+        × Consumes (to_come feed.old (I.told input.old)) (to_come feed.new (I.told input.new)) read
+        × GivesListing read (IsOver (to_come feed.new (I.told input.new))) feed.new.taken result }
     ensures ends { ReadsCleanly result feed.new.held (I.faults input.old) (I.faults input.new) }
 {
     match read_part(alloc, feed, input, LISTING_LIMIT) {
@@ -72,10 +71,10 @@ pub fn exec<I: Source, O: Sink>(
 ) -> Result<(), Status>
     requires fresh { feed.old.taken ≡ 0 }
     ensures told { SourceMeets (exec_outcomes schedule.now)
-        (to_come feed.old (I.left input.old)) (to_come feed.new (I.left input.new))
+        (to_come feed.old (I.told input.old)) (to_come feed.new (I.told input.new))
         (O.taken output.old) (O.taken output.new) (status_of result) }
     ensures end { status_of result ≡ Status.Success
-        → IsOver (to_come feed.new (I.left input.new)) }
+        → IsOver (to_come feed.new (I.told input.new)) }
     ensures ends { EndsCleanly (status_of result) feed.new.held
         (I.faults input.old) (I.faults input.new) (O.faults output.old) (O.faults output.new)
         (O.taken output.old) (O.taken output.new) }

@@ -45,10 +45,10 @@ pub(crate) fn stream<I: Source, O: Sink>(
     requires turns { first_stranger (procs_in order.now) made.now.program.procs ≡ None }
     requires within { feed.old.taken ≤ limit }
     ensures told { SourceMeets (stream_work made.now order.now (limit - feed.old.taken))
-        (to_come feed.old (I.left input.old)) (to_come feed.new (I.left input.new))
+        (to_come feed.old (I.told input.old)) (to_come feed.new (I.told input.new))
         (O.taken output.old) (O.taken output.new) (status_of result) }
     ensures end { status_of result ≡ Status.Success
-        → IsOver (to_come feed.new (I.left input.new)) }
+        → IsOver (to_come feed.new (I.told input.new)) }
     ensures ends { EndsCleanly (status_of result) feed.new.held
         (I.faults input.old) (I.faults input.new) (O.faults output.old) (O.faults output.new)
         (O.taken output.old) (O.taken output.new) }
@@ -76,10 +76,10 @@ pub(crate) fn stream_turns<I: Source, O: Sink>(
     requires within { feed.old.taken ≤ limit }
     ensures told { SourceMeets
         (stream_work made.now (Order.Turns schedule.now) (limit - feed.old.taken))
-        (to_come feed.old (I.left input.old)) (to_come feed.new (I.left input.new))
+        (to_come feed.old (I.told input.old)) (to_come feed.new (I.told input.new))
         (O.taken output.old) (O.taken output.new) (status_of result) }
     ensures end { status_of result ≡ Status.Success
-        → IsOver (to_come feed.new (I.left input.new)) }
+        → IsOver (to_come feed.new (I.told input.new)) }
     ensures ends { EndsCleanly (status_of result) feed.new.held
         (I.faults input.old) (I.faults input.new) (O.faults output.old) (O.faults output.new)
         (O.taken output.old) (O.taken output.new) }
@@ -113,10 +113,10 @@ fn stream_events<I: Source, O: Sink>(
     requires within { feed.old.taken ≤ limit }
     ensures told { SourceMeets
         (stream_work made.now (order_of events.entry) (limit - feed.old.taken))
-        (to_come feed.old (I.left input.old)) (to_come feed.new (I.left input.new))
+        (to_come feed.old (I.told input.old)) (to_come feed.new (I.told input.new))
         (O.taken output.old) (O.taken output.new) (status_of result) }
     ensures end { status_of result ≡ Status.Success
-        → IsOver (to_come feed.new (I.left input.new)) }
+        → IsOver (to_come feed.new (I.told input.new)) }
     ensures ends { EndsCleanly (status_of result) feed.new.held
         (I.faults input.old) (I.faults input.new) (O.faults output.old) (O.faults output.new)
         (O.taken output.old) (O.taken output.new) }

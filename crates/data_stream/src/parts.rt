@@ -1,7 +1,6 @@
 // Parts of an input: its rest, read to its end, and the lines before its first empty line.
 ghost use Rattle.std.specs.Prelude.{◌≡◌, ℕ, ◌+◌, ◌<◌, List, [], ◌∷◌, ◌++◌, OnOk, IsErrOf};
-ghost use Rattle.std.specs.Io.KnownBytes.{Consumes};
-ghost use Rattle.io_edge.specs.Told.{IsOver};
+ghost use Rattle.io_edge.specs.Told.{Consumes, IsOver};
 ghost use Rattle.io_edge.specs.Faults.{Reports};
 ghost use Rattle.io_edge.specs.Feed.{to_come, limit};
 ghost use Rattle.data_stream.specs.Parts.Rest.{GivesRest};
@@ -66,9 +65,9 @@ pub fn read_rest<S: Source>(
     most: u64,
 ) -> Result<Vec<u8>, RestFault>
     requires { feed.old.taken + most < limit }
-    ensures answer { (read : List ℕ) × Consumes (to_come feed.old (S.left source.old))
-        (to_come feed.new (S.left source.new)) read
-        × GivesRest most read (IsOver (to_come feed.new (S.left source.new))) result }
+    ensures answer { (read : List ℕ) × Consumes (to_come feed.old (S.told source.old))
+        (to_come feed.new (S.told source.new)) read
+        × GivesRest most read (IsOver (to_come feed.new (S.told source.new))) result }
     ensures empty { IsErrOf result RestFault.ReadFault → feed.new.held ≡ [] }
     ensures cause { Reports (S.faults source.old) (S.faults source.new)
         (IsErrOf result RestFault.ReadFault) }

@@ -1,7 +1,6 @@
 // Vectors of numbers from a source.
 ghost use Rattle.std.specs.Prelude.{All, ◌≡◌, ◌+◌, ◌≤◌, ◌<◌, ℕ, List, [], length, true, false, Ok, None, Err, ◌≢◌, IsErrOf};
-ghost use Rattle.std.specs.Io.KnownBytes.{Consumes};
-ghost use Rattle.io_edge.specs.Told.{IsOver};
+ghost use Rattle.io_edge.specs.Told.{Consumes, IsOver};
 ghost use Rattle.io_edge.specs.Faults.{Reports};
 ghost use Rattle.io_edge.specs.Feed.{to_come, limit};
 ghost use Rattle.data_stream.specs.Ending.{ending_of, fault_of};
@@ -79,13 +78,13 @@ impl Vectors {
         source: &mut S,
     ) -> Result<Option<u64>, TokenFault>
         requires within { self.old.ended ≡ true → feed.old.taken ≤ limit }
-        requires end { self.old.ended ≡ true → IsOver (to_come feed.old (S.left source.old)) }
+        requires end { self.old.ended ≡ true → IsOver (to_come feed.old (S.told source.old)) }
 
-        ensures answer { (read : List ℕ) × Consumes (to_come feed.old (S.left source.old))
-            (to_come feed.new (S.left source.new)) read
+        ensures answer { (read : List ℕ) × Consumes (to_come feed.old (S.told source.old))
+            (to_come feed.new (S.told source.new)) read
             × (self.old.ended ≡ true → (read ≡ []) × (self.new.ended ≡ true) × (result ≡ Ok None))
             × GivesToken feed.old feed.new read self.new.ended result }
-        ensures end { self.new.ended ≡ true → IsOver (to_come feed.new (S.left source.new)) }
+        ensures end { self.new.ended ≡ true → IsOver (to_come feed.new (S.told source.new)) }
         ensures within { result ≢ Err TokenFault.TooLong → feed.new.taken ≤ limit }
         ensures same { self.new ≡ record self.old { ended = self.new.ended } }
         ensures empty { IsErrOf result TokenFault.ReadFault → feed.new.held ≡ [] }
@@ -122,17 +121,17 @@ impl Vectors {
         vector: &mut [u64],
     ) -> Result<Next, DataFault>
         requires size { length vector.old ≡ self.old.size }
-        requires ready { IsReady self.old feed.old (to_come feed.old (S.left source.old)) }
+        requires ready { IsReady self.old feed.old (to_come feed.old (S.told source.old)) }
 
-        ensures answer { (read : List ℕ) × Consumes (to_come feed.old (S.left source.old))
-            (to_come feed.new (S.left source.new)) read
+        ensures answer { (read : List ℕ) × Consumes (to_come feed.old (S.told source.old))
+            (to_come feed.new (S.told source.new)) read
             × (self.old.ended ≡ true → read ≡ [])
             × GivesVector self.old.size modulus.now self.old.done feed.old feed.new read
             self.new.ended vector.new result }
         ensures residues { result ≡ Ok Next.Vector → All (λ v. v < modulus.now) vector.new }
         ensures ready { result ≡ Ok Next.Vector
-            → IsReady self.new feed.new (to_come feed.new (S.left source.new)) }
-        ensures end { self.new.ended ≡ true → IsOver (to_come feed.new (S.left source.new)) }
+            → IsReady self.new feed.new (to_come feed.new (S.told source.new)) }
+        ensures end { self.new.ended ≡ true → IsOver (to_come feed.new (S.told source.new)) }
         ensures within { result ≢ Err DataFault.TooLong → feed.new.taken ≤ limit }
         ensures once { self.old.ended ≡ true → (result ≡ Ok Next.End) × (self.new.ended ≡ true) }
         ensures size { self.new.size ≡ self.old.size }

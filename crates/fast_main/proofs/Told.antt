@@ -2,10 +2,10 @@
 use Rattle.std.proofs.Common.{◌≡◌, ◌≢◌, ℕ, ◌<◌, ◌≤◌, List, [], ◌++◌, length, None, Some, Ok, Err, Vec, Global}
 use Rattle.std.proofs.Common.{inl, inr, refl, sym, ap, subst, ◌∙◌, append_assoc}
 use Rattle.std.specs.declared.option.Option.{Option}
-use Rattle.std.specs.Io.KnownBytes.{Appends, Consumes}
-use Rattle.io_edge.specs.Told.{IsOver, Tells}
-use Rattle.io_edge.proofs.ToldLemmas.{over_left, tells_held, consumes_held, left_over}
-use Rattle.std.proofs.KnownBytes.{Appends-nil, Consumes-nil, prepend_known-nil}
+use Rattle.std.specs.Io.KnownBytes.{Appends}
+use Rattle.io_edge.specs.Told.{Consumes, Gives, IsOver, Tells, Told, rest_of}
+use Rattle.io_edge.proofs.ToldLemmas.{Gives-nil, gives_held, gives_told, over_left, tells_held}
+use Rattle.std.proofs.KnownBytes.{Appends-nil}
 use Rattle.fast_main.specs.Options.Asked.{Asked, asked}
 use Rattle.fast_main.specs.declared.options.asked.Refusal.{Refusal}
 use Rattle.fast_main.specs.declared.options.asked.Refusal.TheVariants as words
@@ -22,38 +22,38 @@ use Rattle.fast_main.specs.Outcome.{IsAnswer, Accounts, AccountsFor, AreJudged, 
 use Rattle.fast_main.specs.Status.{listing_limit, status_of_rest, status_of_words}
 
 -- the input gave these bytes, and a whole listing stands in them
-pub record HasRead (told left : Option (List ℕ)) (feed : Fed) (listing : List ℕ) : Type 0 where
+pub record HasRead (told left : Told) (feed : Fed) (listing : List ℕ) : Type 0 where
   pub read : List ℕ
-  pub consumed : Consumes told (to_come feed left) read
+  pub gave : Gives told left (read ++ feed.held)
   pub whole : IsWholePart read (IsOver (to_come feed left)) listing
   pub short : length listing ≤ listing_limit
 
 -- from a feed that held nothing
-pub first_fed : (told left : Option (List ℕ)) (start feed : Fed) (read : List ℕ)
+pub first_fed : (told left : Told) (start feed : Fed) (read : List ℕ)
     → start ≡ record { held = []; taken = 0 }
-    → Consumes (to_come start told) (to_come feed left) read → Consumes told (to_come feed left) read
+    → Consumes (to_come start told) (to_come feed left) read → Gives told left (read ++ feed.held)
 first_fed told left start feed read fresh c =
-    subst (λ t. Consumes t (to_come feed left) read) (ap (λ f. to_come f told) fresh ∙ prepend_known-nil told) c
+    gives_held told left start feed read c (ap (λ (f : Fed). f.held) fresh)
 
-pub has_read : (told left : Option (List ℕ)) (start feed : Fed) (text : List ℕ) (listing : Vec ℕ Global)
+pub has_read : (told left : Told) (start feed : Fed) (text : List ℕ) (listing : Vec ℕ Global)
     → start ≡ record { held = []; taken = 0 } → text ≡ listing.items
     → (read : List ℕ) × Consumes (to_come start told) (to_come feed left) read
     × GivesPart listing_limit read (IsOver (to_come feed left)) start.taken feed.taken (Ok listing)
     → HasRead told left feed text
 has_read told left start feed text listing fresh is (read, c, gives) = record {
   read = read;
-  consumed = first_fed told left start feed read fresh c;
+  gave = first_fed told left start feed read fresh c;
   whole = subst (IsWholePart read (IsOver (to_come feed left))) (sym is) gives.3;
   short = subst (λ (l : List ℕ). length l ≤ listing_limit) (sym is) gives.1;
 }
 
 -- the bytes that the feed holds have been read too
-pub listing_ended : (told left : Option (List ℕ)) (feed : Fed) (listing : List ℕ) → HasRead told left feed listing
+pub listing_ended : (told left : Told) (feed : Fed) (listing : List ℕ) → HasRead told left feed listing
     → HasReadListing told left
 listing_ended told left feed listing r = (
   r.read ++ feed.held,
-  consumes_held told left r.read feed.held r.consumed,
-  still_ended r.read feed.held _ _ r.whole.end (left_over feed.held left),
+  r.gave,
+  still_ended r.read feed.held _ _ r.whole.end (λ over. over.1),
 )
 
 -- where neither a read nor a write failed, the outcome is all that is asked
@@ -77,11 +77,11 @@ no_words given more out words.Usage nothing =
 no_words given more out words.NoMemory nothing =
     settled given more more out out NoMemory (λ e. cc) (λ e. cc) (λ d. absurd (d.memory refl))
 
-pub told_no_words : (given : List (List ℕ)) (told out : Option (List ℕ)) (refusal : Refusal)
+pub told_no_words : (given : List (List ℕ)) (told : Told) (out : Option (List ℕ)) (refusal : Refusal)
     → (refusal ≡ words.Usage → asked given ≡ None) → AccountsFor given told told out out (status_of_words refusal)
 told_no_words given told out refusal nothing = record {
   read = [];
-  consumed = Consumes-nil told;
+  gave = Gives-nil told;
   accounts = λ more tells. no_words given more out refusal nothing;
 }
 
@@ -121,34 +121,34 @@ module _ (given : List (List ℕ)) (wanted : Asked) (out : Option (List ℕ)) (i
   unread rest.NoMemory held read more ended before taken gives empty =
       settled given _ more out out NoMemory (λ e. cc) (λ e. cc) (λ d. absurd (d.memory refl))
 
-  pub told_unread : (told : Option (List ℕ)) (feed : Fed) (left : Option (List ℕ)) (read : List ℕ) (fault : RestFault)
-      (ended : Type 0) (before taken : ℕ) → Consumes told (to_come feed left) read
+  pub told_unread : (told : Told) (feed : Fed) (left : Told) (read : List ℕ) (fault : RestFault)
+      (ended : Type 0) (before taken : ℕ) → Gives told left (read ++ feed.held)
       → GivesPart listing_limit read ended before taken (Err fault) → (fault ≡ rest.ReadFault → feed.held ≡ [])
       → AccountsFor given told left out out (status_of_rest fault)
   told_unread told feed left read fault ended before taken c gives empty = record {
     read = read ++ feed.held;
-    consumed = consumes_held told left read feed.held c;
+    gave = c;
     accounts = λ more tells. unread fault feed.held read more ended before taken gives empty;
   }
 
   -- The listing is read
 
-  module _ (told left : Option (List ℕ)) (feed : Fed) (listing : List ℕ) (r : HasRead told left feed listing) where
+  module _ (told left : Told) (feed : Fed) (listing : List ℕ) (r : HasRead told left feed listing) where
     -- an outcome of the listing is one of all bytes of the input
-    outcome : (more text : List ℕ) (status : Status) → Tells left more → IsAnswer wanted listing status text
+    outcome : (more text : List ℕ) (status : Status) → Tells (rest_of left) more → IsAnswer wanted listing status text
         → IsOutcome given ((r.read ++ feed.held) ++ more) status text
     outcome more text status tells answer =
-        let over = over_left (to_come feed left) (feed.held ++ more) (tells_held feed.held left more tells) in
+        let over = over_left (to_come feed left) (feed.held ++ more) (tells_held feed.held (rest_of left) more tells) in
         let same : first_part ((r.read ++ feed.held) ++ more) ≡ listing =
         ap first_part (append_assoc r.read feed.held more) ∙ (r.whole.parts (feed.held ++ more) over).0 in
         inr (wanted, is, subst (λ l. IsOutcomeOfListing wanted l status text) (sym same) (inr (r.short, answer)))
 
-    account : (out' : Option (List ℕ)) (status : Status) → ((more : List ℕ) → Tells left more →
+    account : (out' : Option (List ℕ)) (status : Status) → ((more : List ℕ) → Tells (rest_of left) more →
         Accounts given ((r.read ++ feed.held) ++ more) more out out' status)
         → AccountsFor given told left out out' status
     account out' status each = record {
       read = r.read ++ feed.held;
-      consumed = consumes_held told left r.read feed.held r.consumed;
+      gave = r.gave;
       accounts = each;
     }
 
@@ -179,9 +179,14 @@ rest_is_no_usage rest.ReadFault e = cc
 rest_is_no_usage fault e = cc
 
 -- of an input that tells its bytes
-pub told_input : (words : List (List ℕ)) (bytes : List ℕ) (left before after : Option (List ℕ)) (status : Status)
-    → AccountsFor words (Some bytes) left before after status
-    → (more : List ℕ) × (left ≡ Some more) × Accounts words bytes more before after status
-told_input words bytes None before after status p = absurd p.consumed
-told_input words bytes (Some more) before after status p =
-    (more, refl, subst (λ (b : List ℕ). Accounts words b more before after status) (sym p.consumed) (p.accounts more refl))
+pub told_input : (words : List (List ℕ)) (bytes : List ℕ) (input input' : Told) (before after : Option (List ℕ))
+    (status : Status)
+    → rest_of input ≡ Some bytes → AccountsFor words input input' before after status
+    → (more : List ℕ) × (rest_of input' ≡ Some more) × Accounts words bytes more before after status
+told_input words bytes input input' before after status tells p =
+    let left = gives_told input input' bytes p.read tells p.gave in (
+      left.0,
+      left.1,
+      subst (λ (b : List ℕ). Accounts words b left.0 before after status) (sym left.2)
+          (p.accounts left.0 (subst (λ (k : Option (List ℕ)). Tells k left.0) (sym left.1) refl)),
+    )

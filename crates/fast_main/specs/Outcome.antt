@@ -1,8 +1,8 @@
 -- What a call answers for its words and the bytes of its input, and what it writes.
 use Rattle.std.specs.Prelude.{◌≡◌, ◌≢◌, ◌⊎◌, ℕ, ◌<◌, ◌≤◌, List, [], ◌++◌, length, Some, None, true, false}
 use Rattle.std.specs.declared.option.Option.{Option}
-use Rattle.std.specs.Io.KnownBytes.{Appends, Consumes}
-use Rattle.io_edge.specs.Told.{IsOver, Tells}
+use Rattle.std.specs.Io.KnownBytes.{Appends}
+use Rattle.io_edge.specs.Told.{Gives, Tells, Told, rest_of}
 use Rattle.icode.specs.Plain.{PlainProgram}
 use Rattle.grammar.specs.Grammar.{IsLost}
 use Rattle.listing_text.specs.Texts.{is_listing}
@@ -114,8 +114,9 @@ pub record AreJudged (words : List (List ℕ)) (status : Status) : Type 0 where
   pub nothing : asked words ≡ None → (status ≡ Usage) ⊎ (status ≡ NoMemory)
 
 -- the listing has been read to its end: to an empty line, or to the end of the input
-abbrev pub HasReadListing : Option (List ℕ) → Option (List ℕ) → Type 0
-HasReadListing told left = (read : List ℕ) × Consumes told left read × HasPartEnded read (IsOver left)
+abbrev pub HasReadListing : Told → Told → Type 0
+HasReadListing input input' =
+    (read : List ℕ) × Gives input input' read × HasPartEnded read (input'.ended ≡ true)
 
 -- Status and output of a call, by all the bytes of its input and by those that are left of them
 pub record Accounts (words : List (List ℕ)) (bytes left : List ℕ) (before after : Option (List ℕ))
@@ -130,13 +131,13 @@ pub record Accounts (words : List (List ℕ)) (bytes left : List ℕ) (before af
   pub write_fault : status ≡ WriteFault →
       (text : List ℕ) × IsOutcome words bytes Success text × AppendsPrefix before after text
 
--- the same by an input: it gave these bytes, and with all that it may have left they account for status and output. One
--- that does not tell its bytes may have any left
-pub record AccountsFor (words : List (List ℕ)) (input input' before after : Option (List ℕ))
+-- the same by an input: in this call it gave these bytes, and with all that it may have left they account for status
+-- and output. One that does not tell its bytes may have any left
+pub record AccountsFor (words : List (List ℕ)) (input input' : Told) (before after : Option (List ℕ))
     (status : Status) : Type 0 where
   pub read : List ℕ
-  pub consumed : Consumes input input' read
-  pub accounts : (left : List ℕ) → Tells input' left → Accounts words (read ++ left) left before after status
+  pub gave : Gives input input' read
+  pub accounts : (left : List ℕ) → Tells (rest_of input') left → Accounts words (read ++ left) left before after status
 
 -- the line went to the note whole, or a prefix of it where the note failed
 abbrev pub Notes : Option (List ℕ) → Option (List ℕ) → ℕ → ℕ → List ℕ → Type 0

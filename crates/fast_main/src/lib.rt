@@ -15,6 +15,7 @@ ghost use Rattle.fast_main.specs.Status.{listing_limit};
 ghost use Rattle.fast_main.specs.Translation.{AreSoundWords, HasWholeLines, IsOrderFree, KeepsInput, fast_text};
 ghost use Rattle.fast_main.specs.declared.status.Status.{Status as SpecStatus};
 ghost use Rattle.fast_main.specs.Outcome.{Accounts, AccountsFor, IsOutcome, TextsAreOfOneProgram};
+ghost use Rattle.io_edge.specs.Told.{Told, rest_of};
 
 mod options;
 mod prepare;
@@ -38,9 +39,10 @@ pub fn calls_have_one_outcome()
 /// Of an input that tells its bytes, these and the words account for the status and the output, and the input tells
 /// what is left of them.
 pub fn told_inputs_are_accounted_for()
-    ensures { (words : List (List ℕ)) (bytes : List ℕ) (left before after : Option (List ℕ))
-        (status : SpecStatus) → AccountsFor words (Some bytes) left before after status
-        → (rest : List ℕ) × (left ≡ Some rest) × Accounts words bytes rest before after status }
+    ensures { (words : List (List ℕ)) (bytes : List ℕ) (input input' : Told) (before after : Option (List ℕ))
+        (status : SpecStatus) → rest_of input ≡ Some bytes
+        → AccountsFor words input input' before after status
+        → (rest : List ℕ) × (rest_of input' ≡ Some rest) × Accounts words bytes rest before after status }
 {}
 
 /// Each call has an outcome.

@@ -109,11 +109,11 @@ fn work<I: Source, O: Sink>(
     input: &mut I,
     output: &mut O,
 ) -> Result<(), Status>
-    ensures told { AccountsFor (map string_bytes words.now.items) (I.left input.old)
-        (I.left input.new) (O.taken output.old) (O.taken output.new) (status_of result) }
+    ensures told { AccountsFor (map string_bytes words.now.items) (I.told input.old)
+        (I.told input.new) (O.taken output.old) (O.taken output.new) (status_of result) }
     ensures words { AreJudged (map string_bytes words.now.items) (status_of result) }
     ensures end { status_of result ≡ Status.Success
-        → HasReadListing (I.left input.old) (I.left input.new) }
+        → HasReadListing (I.told input.old) (I.told input.new) }
     ensures read { Reports (I.faults input.old) (I.faults input.new)
         (status_of result ≡ Status.ReadFault) }
     ensures write { Reports (O.faults output.old) (O.faults output.new)
@@ -152,12 +152,12 @@ pub fn fast_run<I: Source, O: Sink, E: Sink>(
 ) -> Status
     // The bytes that the input gave, with all that it may have left, and the words account for the status and for what
     // the output took.
-    ensures told { AccountsFor (map string_bytes words.now.items) (I.left input.old)
-        (I.left input.new) (O.taken output.old) (O.taken output.new) result }
+    ensures told { AccountsFor (map string_bytes words.now.items) (I.told input.old)
+        (I.told input.new) (O.taken output.old) (O.taken output.new) result }
     // The words alone tell whether they are a call's.
     ensures words { AreJudged (map string_bytes words.now.items) result }
     // A call that succeeds has read its listing to its end.
-    ensures end { result ≡ Status.Success → HasReadListing (I.left input.old) (I.left input.new) }
+    ensures end { result ≡ Status.Success → HasReadListing (I.told input.old) (I.told input.new) }
 
     // A fault has its cause and is not swallowed, also where nothing is told.
     ensures read { Reports (I.faults input.old) (I.faults input.new) (result ≡ Status.ReadFault) }

@@ -1,8 +1,7 @@
 // The bytes of a source one by one, up to a limit.
 ghost use Rattle.std.specs.Prelude.{◌≡◌, ℕ, ◌+◌, ◌<◌, ◌≤◌, ◌↔◌, true, false, length, Ok, IfOk, OnErr, [], ◌∷◌, IsTrue, IsErrOf};
-ghost use Rattle.std.specs.Io.KnownBytes.{Keeps};
 ghost use Rattle.io_edge.specs.Faults.{Reports, HasCause};
-ghost use Rattle.io_edge.specs.Told.{IsOver};
+ghost use Rattle.io_edge.specs.Told.{IsOver, Keeps};
 
 use crate::{Failed, Source};
 use memory::NoMemory;
@@ -79,8 +78,8 @@ impl Feed {
 
     /// The next byte, or none at the end of the input.
     pub fn byte<S: Source>(&mut self, source: &mut S) -> Result<Option<u8>, FeedFault>
-        ensures answer { Feeds self.old self.new (to_come self.old (S.left source.old))
-            (to_come self.new (S.left source.new)) result }
+        ensures answer { Feeds self.old self.new (to_come self.old (S.told source.old))
+            (to_come self.new (S.told source.new)) result }
         ensures empty { IsErrOf result FeedFault.ReadFault → self.new.held ≡ [] }
         ensures cause { Reports (S.faults source.old) (S.faults source.new)
             (IsErrOf result FeedFault.ReadFault) }
@@ -114,11 +113,11 @@ impl Feed {
     // Asks the source for a block, and answers whether it gave one.
     fn refill<S: Source>(&mut self, source: &mut S) -> Result<bool, Failed>
         requires { self.old.held ≡ [] }
-        ensures kept { Keeps (to_come self.old (S.left source.old))
-            (to_come self.new (S.left source.new)) }
+        ensures kept { Keeps (to_come self.old (S.told source.old))
+            (to_come self.new (S.told source.new)) }
         ensures taken { self.new.taken ≡ self.old.taken }
         ensures more { result ≡ Ok true → 0 < length self.new.held }
-        ensures end { result ≡ Ok false → IsOver (to_come self.new (S.left source.new)) }
+        ensures end { result ≡ Ok false → IsOver (to_come self.new (S.told source.new)) }
         ensures err { OnErr result (self.new ≡ self.old) }
         ensures cause { HasCause (S.faults source.old) (S.faults source.new) result }
     {

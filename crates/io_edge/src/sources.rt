@@ -1,12 +1,11 @@
 // Sources in memory, and over any reader.
-ghost use Rattle.std.specs.Prelude.{◌≡◌, ◌<◌, ◌⊎◌, ◌↔◌, min, false, Some, length, take, drop, vec_len, Contains, IsErr, IfOk, OnErr};
+ghost use Rattle.std.specs.Prelude.{◌≡◌, ◌<◌, ◌⊎◌, ◌↔◌, [], min, true, false, Ok, Some, length, take, drop, vec_len, Contains, IsErr, IfOk, OnErr};
 ghost use Rattle.std.specs.Io.{ReadsAtMost};
-ghost use Rattle.std.specs.Io.KnownBytes.{ReadConsumes};
 ghost use Rattle.io_edge.specs.Faults.{HasCause};
-ghost use Rattle.io_edge.specs.Memory.{Supply, next_count};
-ghost use Rattle.io_edge.specs.Told.{left_of};
+ghost use Rattle.io_edge.specs.Memory.{Supply, next_count, told_of};
+ghost use Rattle.io_edge.specs.Told.{ReadGives, Told};
 
-use crate::{Failed, Source};
+use crate::{Failed, Source, Tape};
 use std::io::Read;
 use std::marker::Model;
 
@@ -25,6 +24,7 @@ fn fill(bytes: &[u8], limit: usize, buf: &mut [u8]) -> usize
 pub struct MemSource {
     bytes: Vec<u8>,
     at: usize,
+    ended: bool,
     step: u64,
     fail_at: Vec<u64>,
     calls: u64,
@@ -32,20 +32,23 @@ pub struct MemSource {
 }
 
 impl Model for MemSource {
-    ghost use Rattle.std.specs.Prelude.{ℕ, ◌<◌, ◌≤◌, List, drop, length};
+    ghost use Rattle.std.specs.Prelude.{◌≡◌, ℕ, ◌<◌, ◌≤◌, true, List, take, drop, length};
     ghost use Rattle.io_edge.specs.Memory.{Supply};
 
     ghost Value = { Supply };
 
     ghost view = { λ s. record {
+      given = take s.at s.bytes.items;
       left = drop s.at s.bytes.items;
+      ended = s.ended;
       step = s.step;
       fail_at = s.fail_at.items;
       calls = s.calls;
       faults = s.faults;
     } };
 
-    ghost invariant = { λ s. (s.at ≤ length s.bytes.items) × (0 < s.step) };
+    ghost invariant = { λ s. (s.at ≤ length s.bytes.items) × (0 < s.step)
+        × (s.ended ≡ true → s.at ≡ length s.bytes.items) };
 }
 
 impl MemSource {
@@ -53,7 +56,9 @@ impl MemSource {
     pub fn new(bytes: Vec<u8>, step: u64, fail_at: Vec<u64>) -> Self
         requires { 0 < step }
         ensures { result ≡ record {
+          given = [];
           left = bytes.items;
+          ended = false;
           step = step;
           fail_at = fail_at.items;
           calls = 0;
@@ -63,6 +68,7 @@ impl MemSource {
         MemSource {
             bytes,
             at: 0,
+            ended: false,
             step,
             fail_at,
             calls: 0,
@@ -72,13 +78,14 @@ impl MemSource {
 }
 
 impl Source for MemSource {
-    ghost left = { λ s. Some s.left };
+    ghost told = { told_of };
 
     ghost faults = { λ s. s.faults };
 
     fn read(&mut self, buf: &mut [u8]) -> Result<usize, Failed>
         ensures bound { ReadsAtMost result buf.new }
-        ensures bytes { ReadConsumes (Some self.old.left) (Some self.new.left) result buf.new }
+        ensures bytes { ReadGives (told_of self.old) (told_of self.new) result buf.new }
+        ensures end { result ≡ Ok 0 → 0 < length buf.new → self.new.ended ≡ true }
         ensures cause { HasCause self.old.faults self.new.faults result }
         ensures broken { 0 < self.old.faults → IsErr result }
 
@@ -98,6 +105,7 @@ impl Source for MemSource {
         }
         let count = fill(&self.bytes[self.at..], self.step as usize, buf);
         self.at += count;
+        self.ended = self.ended || (count == 0 && !buf.is_empty());
         Ok(count)
     }
 }
@@ -107,34 +115,46 @@ impl Source for MemSource {
 pub struct QuietSource {
     bytes: Vec<u8>,
     at: usize,
+    ended: bool,
 }
 
 impl Model for QuietSource {
-    ghost use Rattle.std.specs.Prelude.{ℕ, ◌≤◌, List, drop, length};
+    ghost use Rattle.std.specs.Prelude.{◌≡◌, ◌≤◌, true, Some, take, drop, length};
+    ghost use Rattle.io_edge.specs.Told.{Told};
 
-    ghost Value = { List ℕ };
+    ghost Value = { Told };
 
-    ghost view = { λ s. drop s.at s.bytes.items };
+    ghost view = { λ s. record {
+      given = take s.at s.bytes.items;
+      left = Some (drop s.at s.bytes.items);
+      ended = s.ended;
+    } };
 
-    ghost invariant = { λ s. s.at ≤ length s.bytes.items };
+    ghost invariant = { λ s. (s.at ≤ length s.bytes.items)
+        × (s.ended ≡ true → s.at ≡ length s.bytes.items) };
 }
 
 impl QuietSource {
     pub fn new(bytes: Vec<u8>) -> Self
-        ensures { result ≡ bytes.items }
+        ensures { result ≡ record { given = []; left = Some bytes.items; ended = false } }
     {
-        QuietSource { bytes, at: 0 }
+        QuietSource {
+            bytes,
+            at: 0,
+            ended: false,
+        }
     }
 }
 
 impl Source for QuietSource {
-    ghost left = { λ s. Some s };
+    ghost told = { λ s. s };
 
     ghost faults = { λ _. 0 };
 
     fn read(&mut self, buf: &mut [u8]) -> Result<usize, Failed> {
         let count = fill(&self.bytes[self.at..], buf.len(), buf);
         self.at += count;
+        self.ended = self.ended || (count == 0 && !buf.is_empty());
         Ok(count)
     }
 }
@@ -149,6 +169,8 @@ pub struct ReadSource<R> {
     pub faults: u64,
     /// Whether it has ended.
     pub ended: bool,
+    /// The bytes that it has given.
+    pub tape: Tape,
 }
 
 impl<R: Read> ReadSource<R> {
@@ -156,17 +178,19 @@ impl<R: Read> ReadSource<R> {
         ensures inner { result.inner ≡ inner }
         ensures faults { result.faults ≡ 0 }
         ensures ended { result.ended ≡ false }
+        ensures tape { result.tape.bytes ≡ [] }
     {
         ReadSource {
             inner,
             faults: 0,
             ended: false,
+            tape: Tape::new(),
         }
     }
 }
 
 impl<R: Read> Source for ReadSource<R> {
-    ghost left = { λ s. left_of s.ended (R.remaining s.inner) };
+    ghost told = { λ s. record { given = s.tape.bytes; left = R.remaining s.inner; ended = s.ended } };
 
     ghost faults = { λ s. s.faults };
 
@@ -181,6 +205,7 @@ impl<R: Read> Source for ReadSource<R> {
         match self.inner.read(buf) {
             Ok(count) => {
                 self.ended = count == 0 && !buf.is_empty();
+                self.tape.note(&buf[..count]);
                 Ok(count)
             }
             Err(_) => {

@@ -5,8 +5,7 @@ use Rattle.std.proofs.Common.{append-nil}
 use Rattle.std.proofs.lemmas.Grind.{common_steps}
 use Rattle.std.specs.List.{list_all}
 use Rattle.std.specs.declared.option.Option.{Option}
-use Rattle.std.specs.Io.KnownBytes.{Consumes}
-use Rattle.io_edge.specs.Told.{IsOver}
+use Rattle.io_edge.specs.Told.{Coming, Consumes, IsOver}
 use Rattle.io_edge.specs.Feed.{Fed, limit}
 use Rattle.data_stream.specs.Data.{tokens, closed_part, is_good}
 use Rattle.data_stream.specs.Reading.{GivesVector}
@@ -28,14 +27,15 @@ use Rattle.runs.proofs.StreamLemmas.{answered_with, fault_within, seen_front, st
 use Rattle.runs.proofs.CutLemmas.{writes_same}
 
 -- nothing was read yet
-pub come_none : (modulus size : ℕ) (cut : Cut) (feed : Fed) (a : Option (List ℕ)) → cut ≡ record { size = size; done = 0; ended = false } → HasCome modulus cut feed feed a a []
+pub come_none : (modulus size : ℕ) (cut : Cut) (feed : Fed) (a : Coming)
+    → cut ≡ record { size = size; done = 0; ended = false } → HasCome modulus cut feed feed a a []
 come_none modulus size cut feed a new = record {
   progress = subst (λ (v : Cut). StreamProgress a a feed.taken feed.taken v.ended v.size modulus v.done []) (sym new) (no_stream a feed.taken false size modulus);
   begun = λ _. refl;
 }
 
 -- as the reader of vectors is then
-pub ready_none : {size : ℕ} {cut : Cut} (feed : Fed) (left : Option (List ℕ)) →
+pub ready_none : {size : ℕ} {cut : Cut} (feed : Fed) (left : Coming) →
     cut ≡ record { size = size; done = 0; ended = false } → IsReady cut feed left
 ready_none feed left new =
     subst (λ (v : Cut). IsReady v feed left) (sym new)
@@ -47,7 +47,7 @@ ready_none feed left new =
     })
 
 -- a vector more
-pub come_push : (modulus : ℕ) (cut next : Cut) (old now new : Fed) (a b c : Option (List ℕ)) (seen : List (List ℕ))
+pub come_push : (modulus : ℕ) (cut next : Cut) (old now new : Fed) (a b c : Coming) (seen : List (List ℕ))
     (read vector : List ℕ)
     → 0 < cut.size → next.size ≡ cut.size → next.done ≡ cut.done + cut.size → new.taken ≤ limit → Consumes b c read →
     Once cut.ended next.ended read
@@ -63,7 +63,7 @@ come_push modulus cut next old now new a b c seen read vector some size done wit
     }
 
 -- what was read is an answer to all data
-pub reads_data : (size modulus : ℕ) (old new : Fed) (before after : Option (List ℕ)) (vectors : List (List ℕ))
+pub reads_data : (size modulus : ℕ) (old new : Fed) (before after : Coming) (vectors : List (List ℕ))
     (result : Result (Unit {0}) StreamFault) (read : List ℕ)
     → Consumes before after read × Reads size modulus old new read (IsOver after) vectors result →
     (result ≢ Err TooLong → new.taken ≤ limit)
@@ -76,7 +76,7 @@ reads_data size modulus old new before after vectors result read s within = reco
 }
 
 -- the data end
-pub come_end : (modulus : ℕ) (cut : Cut) (ended : Bool) (old now new : Fed) (a b c : Option (List ℕ))
+pub come_end : (modulus : ℕ) (cut : Cut) (ended : Bool) (old now new : Fed) (a b c : Coming)
     (seen : List (List ℕ)) (read vector : List ℕ)
     → 0 < cut.size → new.taken ≤ limit → Consumes b c read → Once cut.ended ended read →
     GivesVector cut.size modulus cut.done now new read ended vector (Ok End) → (ended ≡ true → IsOver c)
@@ -86,7 +86,7 @@ come_end modulus cut ended old now new a b c seen read vector some within r once
     (stream_end a b c old now new cut.ended ended cut.size modulus cut.done seen (IsOver c) read vector some h.progress r once given end) (λ _. within)
 
 -- or are faulty
-pub come_fault : (modulus : ℕ) (cut : Cut) (ended : Bool) (old now new : Fed) (a b c : Option (List ℕ))
+pub come_fault : (modulus : ℕ) (cut : Cut) (ended : Bool) (old now new : Fed) (a b c : Coming)
     (seen : List (List ℕ)) (read vector : List ℕ) (fault : DataFault)
     → 0 < cut.size → (failed_next fault ≢ failed_next data_fault.TooLong → new.taken ≤ limit) → Consumes b c read →
     cut.ended ≡ false
@@ -105,7 +105,7 @@ fault_reads data_fault.TooLong = λ e. cc
 fault_reads data_fault.ReadFault = λ e. cc
 
 -- the output fails after what was read
-pub come_unwritten : (modulus : ℕ) (cut : Cut) (old new : Fed) (a c : Option (List ℕ)) (seen : List (List ℕ))
+pub come_unwritten : (modulus : ℕ) (cut : Cut) (old new : Fed) (a c : Coming) (seen : List (List ℕ))
     → 0 < cut.size → new.taken ≤ limit → (cut.ended ≡ true → IsOver c) → HasCome modulus cut old new a c seen →
     ReadsData cut.size modulus old new a c seen (Err WriteFault)
 come_unwritten modulus cut old new a c seen some within end h =
@@ -114,7 +114,7 @@ come_unwritten modulus cut old new a c seen some within end h =
 
 -- a run from the first vector on
 module _ {S : Type 0} {text : List ℕ → List ℕ} {leaves : List ℕ → S} {count size modulus : ℕ} {old new : Fed}
-    {before after out out' : Option (List ℕ)} {first last : S} {result : Result (Unit {0}) StreamFault} where
+    {before after : Coming} {out out' : Option (List ℕ)} {first last : S} {result : Result (Unit {0}) StreamFault} where
   pub streams_new : count ≡ size →
       StreamsBehind [] text leaves count modulus old new before after out out' first last result →
       Streams text leaves size modulus old new before after out out' first last result
@@ -132,7 +132,7 @@ module _ {S : Type 0} {text : List ℕ → List ℕ} {leaves : List ℕ → S} {
 
 -- a run told in other words
 pub streams_as : {S T : Type 0} (f : S → T) (seen : List (List ℕ)) (text text' : List ℕ → List ℕ) (leaves : List ℕ → S)
-    (leaves' : List ℕ → T) (size modulus : ℕ) (old new : Fed) (before after out out' : Option (List ℕ))
+    (leaves' : List ℕ → T) (size modulus : ℕ) (old new : Fed) (before after : Coming) (out out' : Option (List ℕ))
     (first last : S) (result : Result (Unit {0}) StreamFault) → ((x : List ℕ) → text x ≡ text' x) →
     ((x : List ℕ) → f (leaves x) ≡ leaves' x)
     → StreamsBehind seen text leaves size modulus old new before after out out' first last result →
@@ -156,7 +156,7 @@ good_on (t ∷ ts) more h =
 abbrev BeginsWith : List (List ℕ) → List (List ℕ) → Type 0
 BeginsWith vectors all = (later : List (List ℕ)) × (all ≡ vectors ++ later)
 
-seen_first : (a b : Option (List ℕ)) (old new : ℕ) (ended : Bool) (size modulus done : ℕ) (vectors : List (List ℕ))
+seen_first : (a b : Coming) (old new : ℕ) (ended : Bool) (size modulus done : ℕ) (vectors : List (List ℕ))
     (p : StreamProgress a b old new ended size modulus done vectors)
     (over : Bool) (bad : Option ℕ) (more : List ℕ) → (ended ≡ true → (more ≡ []) × (over ≡ false)) →
     BeginsWith vectors (vectors_seen size modulus over bad (p.bytes ++ more))
@@ -173,7 +173,7 @@ take_nothing zero = refl
 take_nothing (suc n) = refl
 
 -- whatever the data have after them
-pub vectors_begin : (modulus : ℕ) (cut : Cut) (old new : Fed) (before after : Option (List ℕ)) (rest : List ℕ)
+pub vectors_begin : (modulus : ℕ) (cut : Cut) (old new : Fed) (before after : Coming) (rest : List ℕ)
     (vectors : List (List ℕ)) → (h : HasCome modulus cut old new before after vectors)
     → old.taken ≤ limit → new.taken ≤ limit → (cut.ended ≡ true → rest ≡ [])
     → BeginsWith vectors (data_vectors cut.size modulus (limit - old.taken) (h.progress.bytes ++ rest))

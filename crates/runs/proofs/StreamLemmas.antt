@@ -5,12 +5,14 @@ use Rattle.std.proofs.Common.{sym, ap, ap₂, subst, ◌∙◌, arith, append_as
 use Rattle.std.proofs.Common.{add-one, add-zero, slice_index, inl, inr}
 use Rattle.std.proofs.Math.Nat.{add-div_left, div-eq_of_lt, mod-eq_of_lt, add-mod_left}
 use Rattle.std.proofs.Math.Seq.{take-append_seam, take-append-add, drop-append_seam}
-use Rattle.std.proofs.KnownBytes.{Consumes-nil, Consumes-trans, Appends-trans}
+use Rattle.std.proofs.KnownBytes.{Appends-trans}
+use Rattle.io_edge.proofs.ToldLemmas.{Consumes-nil, Consumes-trans}
 use Rattle.std.proofs.lemmas.Grind.{common_steps, flat_map-append}
 use Rattle.std.proofs.lemmas.List.{take_all}
 use Rattle.std.specs.List.{list_all}
 use Rattle.std.specs.declared.option.Option.{Option}
-use Rattle.std.specs.Io.KnownBytes.{Appends, Consumes}
+use Rattle.std.specs.Io.KnownBytes.{Appends}
+use Rattle.io_edge.specs.Told.{Coming, Consumes}
 use Rattle.icode.specs.Machine.{Code, State, padded, start, run, finished, runs, words_at}
 use Rattle.buffer_machine.specs.declared.Events.{Events}
 use Rattle.buffer_machine.specs.Listed.{events_of}
@@ -65,7 +67,7 @@ pub state_behind-push : {S : Type 0} (leaves : List ℕ → S) (state : S) (vect
 state_behind-push leaves state [] x = refl
 state_behind-push leaves state (v ∷ vectors) x = state_behind-push leaves (leaves v) vectors x
 
-pub no_stream : (a : Option (List ℕ)) (old : ℕ) (ended : Bool) (size modulus : ℕ) →
+pub no_stream : (a : Coming) (old : ℕ) (ended : Bool) (size modulus : ℕ) →
     StreamProgress a a old old ended size modulus 0 []
 no_stream a old ended size modulus = record {
   bytes = [];
@@ -95,7 +97,7 @@ going_on true new read once going = absurd (not_ended new going (once refl).1)
 going_on false new read once going = refl
 
 -- a vector more
-pub stream_push : (a b c : Option (List ℕ)) (old : ℕ) (now new : Fed) (mid ended : Bool) (size modulus done : ℕ)
+pub stream_push : (a b c : Coming) (old : ℕ) (now new : Fed) (mid ended : Bool) (size modulus done : ℕ)
     (vectors : List (List ℕ)) (read vector : List ℕ)
     → 0 < size → StreamProgress a b old now.taken mid size modulus done vectors → Consumes b c read →
     Once mid ended read
@@ -131,14 +133,14 @@ closed_or_ended true closed end c e = inr (e refl)
 closed_or_ended false closed end c e = inl (c refl)
 
 -- fewer tokens than a vector has make no vector after whole ones
-vectors_still : {a b : Option (List ℕ)} {old new : ℕ} {ended : Bool} {size modulus done : ℕ} {vectors : List (List ℕ)}
+vectors_still : {a b : Coming} {old new : ℕ} {ended : Bool} {size modulus done : ℕ} {vectors : List (List ℕ)}
     (p : StreamProgress a b old new ended size modulus done vectors) (us : List (List ℕ)) → length us < size →
     vectors_of size modulus (p.ts ++ us) ≡ vectors
 vectors_still {a} {b} {old} {new} {ended} {size} {modulus} {done} {vectors} p us few =
     p.splits us ∙ ap (λ l. vectors ++ l) (vectors_few size modulus us few) ∙ append-nil vectors
 
 -- the line of a vector was not written whole
-pub stream_unwritten : (a c : Option (List ℕ)) (old new : Fed) (ended : Bool) (size modulus done : ℕ)
+pub stream_unwritten : (a c : Coming) (old new : Fed) (ended : Bool) (size modulus done : ℕ)
     (vectors : List (List ℕ)) (end : Type 0)
     → 0 < size → (p : StreamProgress a c old.taken new.taken ended size modulus done vectors) → (ended ≡ true → end)
     → Reads size modulus old new p.bytes end vectors (Err WriteFault)
@@ -152,7 +154,7 @@ stream_unwritten a c old new ended size modulus done vectors end some p at_end =
     )
 
 -- the data end after a whole vector
-pub stream_end : (a b c : Option (List ℕ)) (old now new : Fed) (mid ended : Bool) (size modulus done : ℕ)
+pub stream_end : (a b c : Coming) (old now new : Fed) (mid ended : Bool) (size modulus done : ℕ)
     (vectors : List (List ℕ)) (end : Type 0) (read vector : List ℕ)
     → 0 < size → (p : StreamProgress a b old.taken now.taken mid size modulus done vectors) → Consumes b c read →
     Once mid ended read
@@ -187,7 +189,7 @@ front_good (t ∷ ts) bad others h b =
     ap (λ b. cond b (t ∷ good_front (ts ++ bad ∷ others)) []) good ∙ ap (λ l. t ∷ l) (front_good ts bad others rest b)
 
 -- after whole vectors, what there is of the next
-part_behind : (a b : Option (List ℕ)) (old now : ℕ) (mid : Bool) (size modulus done : ℕ) (vectors : List (List ℕ))
+part_behind : (a b : Coming) (old now : ℕ) (mid : Bool) (size modulus done : ℕ) (vectors : List (List ℕ))
     (read : List ℕ) (p : StreamProgress a b old now mid size modulus done vectors)
     → mid ≡ false → IsPart size read
     → (list_all is_good (tokens (p.bytes ++ read)) ≡ true) × (vectors_of size modulus
@@ -205,7 +207,7 @@ no_bytes [] e = refl
 no_bytes (x ∷ bytes) e = absurd (omega arith)
 
 -- the data end in a vector, or are faulty, or can't be read
-pub stream_fault_at : (a b c : Option (List ℕ)) (old now new : Fed) (mid ended : Bool) (size modulus done : ℕ)
+pub stream_fault_at : (a b c : Coming) (old now new : Fed) (mid ended : Bool) (size modulus done : ℕ)
     (vectors : List (List ℕ)) (end : Type 0) (read vector : List ℕ) (fault : DataFault)
     → 0 < size → (p : StreamProgress a b old.taken now.taken mid size modulus done vectors) →
     (limit < now.taken → now.taken ≡ old.taken) → Consumes b c read → mid ≡ false

@@ -2,8 +2,7 @@
 use Rattle.std.specs.Prelude.{◌≡◌, ◌≢◌, ◌≤◌, ℕ, ◌+◌, ◌-◌, ◌<◌, ◌%◌, Bool, true, false, List, [], ◌++◌, length, Ok, Err, Result}
 use Rattle.std.specs.List.{list_all}
 use Rattle.std.specs.declared.option.Option.{Option}
-use Rattle.std.specs.Io.KnownBytes.{Consumes}
-use Rattle.io_edge.specs.Told.{IsOver}
+use Rattle.io_edge.specs.Told.{Coming, Consumes, IsOver}
 use Rattle.io_edge.specs.Feed.{Fed, limit}
 use Rattle.data_stream.specs.Data.{closed_part, is_good}
 use Rattle.data_stream.specs.Reading.{AreTokens}
@@ -13,7 +12,8 @@ use Rattle.runs.specs.declared.stream.StreamFault.{StreamFault}
 use Rattle.runs.specs.declared.stream.StreamFault.TheVariants.{Truncated, WriteFault}
 
 -- the bytes that were read so far, and their vectors
-pub record StreamProgress (before after : Option (List ℕ)) (old new : ℕ) (ended : Bool) (size modulus done : ℕ) (vectors : List (List ℕ)) : Type 0 where
+pub record StreamProgress (before after : Coming) (old new : ℕ) (ended : Bool) (size modulus done : ℕ)
+    (vectors : List (List ℕ)) : Type 0 where
   pub bytes : List ℕ
   pub ts : List (List ℕ)
   pub consumed : Consumes before after bytes
@@ -26,19 +26,22 @@ pub record StreamProgress (before after : Option (List ℕ)) (old new : ℕ) (en
   pub closed : ended ≡ false → closed_part bytes ≡ bytes
 
 -- After what was read from these data on, the feed stands here, and these vectors were whole. A feed over its limit has given nothing
-pub record HasCome (modulus : ℕ) (cut : Cut) (old new : Fed) (before after : Option (List ℕ)) (vectors : List (List ℕ)) : Type 0 where
+pub record HasCome (modulus : ℕ) (cut : Cut) (old new : Fed) (before after : Coming)
+    (vectors : List (List ℕ)) : Type 0 where
   pub progress : StreamProgress before after old.taken new.taken cut.ended cut.size modulus cut.done vectors
   pub begun : limit < new.taken → new.taken ≡ old.taken
 
 -- the answer to data, and their vectors, by the bytes that were read and by all bytes
-pub record ReadsData (size modulus : ℕ) (old new : Fed) (before after : Option (List ℕ)) (vectors : List (List ℕ)) (result : Result (Unit {0}) StreamFault) : Type 0 where
+pub record ReadsData (size modulus : ℕ) (old new : Fed) (before after : Coming) (vectors : List (List ℕ))
+    (result : Result (Unit {0}) StreamFault) : Type 0 where
   pub read : List ℕ
   pub consumed : Consumes before after read
   pub answer : Reads size modulus old new read (IsOver after) vectors result
   pub answers : old.taken ≤ limit → AnswersWith size modulus (limit - old.taken) read (IsOver after) vectors result
 
 -- What a run has read, written and left that goes on after these vectors: the data are read to their end from where they began, and the texts are those of the later vectors
-pub record StreamsBehind {S : Type 0} (seen : List (List ℕ)) (text : List ℕ → List ℕ) (leaves : List ℕ → S) (size modulus : ℕ) (old new : Fed) (before after : Option (List ℕ))
+pub record StreamsBehind {S : Type 0} (seen : List (List ℕ)) (text : List ℕ → List ℕ) (leaves : List ℕ → S)
+    (size modulus : ℕ) (old new : Fed) (before after : Coming)
     (out out' : Option (List ℕ)) (first last : S) (result : Result (Unit {0}) StreamFault) : Type 0 where
   pub later : List (List ℕ)
   pub reads : ReadsData size modulus old new before after (seen ++ later) result
@@ -46,10 +49,11 @@ pub record StreamsBehind {S : Type 0} (seen : List (List ℕ)) (text : List ℕ 
   pub stands : result ≢ Err WriteFault → last ≡ state_behind leaves first later
 
 -- the same from here on, wherever the data began
-abbrev pub StreamsOn : {S : Type 0} → (List ℕ → List ℕ) → (List ℕ → S) → ℕ → Cut → Fed → Fed → Option (List ℕ) → Option (List ℕ) → Option (List ℕ) → Option (List ℕ)
+abbrev pub StreamsOn : {S : Type 0} → (List ℕ → List ℕ) → (List ℕ → S) → ℕ → Cut → Fed → Fed → Coming → Coming
+    → Option (List ℕ) → Option (List ℕ)
     → S → S → Result (Unit {0}) StreamFault → Type 0
 StreamsOn text leaves modulus cut now new mid after out out' first last result =
-    (old : Fed) (before : Option (List ℕ)) (seen : List (List ℕ)) → HasCome modulus cut old now before mid seen
+    (old : Fed) (before : Coming) (seen : List (List ℕ)) → HasCome modulus cut old now before mid seen
     → StreamsBehind seen text leaves cut.size modulus old new before after out out' first last result
 
 -- Data whose first vector has to be there
@@ -60,6 +64,6 @@ lacking size (Ok u) = Truncated 0 size
 lacking size (Err fault) = fault
 
 -- the data have no vector, and the fault says why
-abbrev pub HasNoVector : ℕ → ℕ → Fed → Fed → Option (List ℕ) → Option (List ℕ) → StreamFault → Type 0
+abbrev pub HasNoVector : ℕ → ℕ → Fed → Fed → Coming → Coming → StreamFault → Type 0
 HasNoVector size modulus old new before after fault =
     (result : Result (Unit {0}) StreamFault) × (result ≢ Err WriteFault) × ReadsData size modulus old new before after [] result × (fault ≡ lacking size result)

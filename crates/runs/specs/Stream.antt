@@ -2,8 +2,8 @@
 use Rattle.std.specs.Prelude.{◌≡◌, ◌≢◌, ◌≤◌, ◌⊎◌, ℕ, zero, suc, ◌+◌, ◌-◌, ◌/◌, ◌%◌, ◌<◌, Bool, true, false, List, [], ◌∷◌, ◌++◌, length, take, drop, None, Some, Ok, Err, Result, if◌then◌else◌, nat_le, nat_lt, find, ◌==◌}
 use Rattle.std.specs.List.{list_all, flat_map}
 use Rattle.std.specs.declared.option.Option.{Option}
-use Rattle.std.specs.Io.KnownBytes.{Appends, Consumes}
-use Rattle.io_edge.specs.Told.{IsOver}
+use Rattle.std.specs.Io.KnownBytes.{Appends}
+use Rattle.io_edge.specs.Told.{Coming, Consumes, IsOver}
 use Rattle.schedules.specs.Schedule.{Plan}
 use Rattle.schedules.specs.Turns.{named}
 use Rattle.io_edge.specs.Feed.{Fed, limit}
@@ -118,7 +118,8 @@ Writes before after (Err WriteFault) text vectors = FailsAtLast text vectors bef
 Writes before after result text vectors = Appends before after (texts text vectors)
 
 -- What a run has read, written and left, which writes the text of each vector and is then where the vector leaves it, unless the output fails in between
-pub record Streams {S : Type 0} (text : List ℕ → List ℕ) (leaves : List ℕ → S) (size modulus : ℕ) (old new : Fed) (before after : Option (List ℕ))
+pub record Streams {S : Type 0} (text : List ℕ → List ℕ) (leaves : List ℕ → S) (size modulus : ℕ) (old new : Fed)
+    (before after : Coming)
     (out out' : Option (List ℕ)) (first last : S) (result : Result (Unit {0}) StreamFault) : Type 0 where
   pub read : List ℕ
   pub vectors : List (List ℕ)

@@ -35,7 +35,7 @@ pub fn run_buffered<I: Source, O: Sink>(
         (buffered_text lines machine.old.code (events_of events.entry machine.old.code.procs))
         (λ x. buffered_runs machine.old.code x (events_of events.entry machine.old.code.procs))
         machine.old.code.size machine.old.code.modulus feed.old feed.new
-        (to_come feed.old (I.left input.old)) (to_come feed.new (I.left input.new))
+        (to_come feed.old (I.told input.old)) (to_come feed.new (I.told input.new))
         (O.taken output.old) (O.taken output.new) machine.old.state machine.new.state result }
     ensures code { machine.new.code ≡ machine.old.code }
     ensures within { result ≢ Err StreamFault.TooLong → feed.new.taken ≤ limit }

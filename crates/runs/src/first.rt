@@ -21,15 +21,15 @@ pub fn read_first<I: Source>(
     requires some { 0 < length vector.old }
     requires new { vectors.old ≡ record { size = length vector.old; done = 0; ended = false } }
     ensures come { OnOk result (HasCome modulus.now vectors.new feed.old feed.new
-        (to_come feed.old (I.left input.old)) (to_come feed.new (I.left input.new))
+        (to_come feed.old (I.told input.old)) (to_come feed.new (I.told input.new))
         (vector.new ∷ [])) }
     ensures ready { OnOk result
-        (IsReady vectors.new feed.new (to_come feed.new (I.left input.new))) }
+        (IsReady vectors.new feed.new (to_come feed.new (I.told input.new))) }
     ensures residues { OnOk result (All (λ v. v < modulus.now) vector.new) }
     ensures size { vectors.new.size ≡ length vector.old }
     ensures none { IfErr result (λ fault. HasNoVector (length vector.old) modulus.now
-        feed.old feed.new (to_come feed.old (I.left input.old))
-        (to_come feed.new (I.left input.new)) fault) }
+        feed.old feed.new (to_come feed.old (I.told input.old))
+        (to_come feed.new (I.told input.new)) fault) }
     ensures within { result ≢ Err StreamFault.TooLong → feed.new.taken ≤ limit }
     ensures empty { IsErrOf result StreamFault.ReadFault → feed.new.held ≡ [] }
     ensures read { Reports (I.faults input.old) (I.faults input.new)

@@ -149,7 +149,7 @@ pub(crate) fn stream<E: Engine, I: Source, O: Sink>(
     requires cut { vectors.old.size ≡ (E.code machine.old).size }
     requires size { length vector.old ≡ (E.code machine.old).size }
     requires no_stranger { HasNoStranger events (E.code machine.old).procs }
-    requires ready { IsReady vectors.old feed.old (to_come feed.old (I.left input.old)) }
+    requires ready { IsReady vectors.old feed.old (to_come feed.old (I.told input.old)) }
 
     // What it read, wrote and left, also of a source that doesn't tell its bytes.
     ensures streams { StreamsOn
@@ -158,7 +158,7 @@ pub(crate) fn stream<E: Engine, I: Source, O: Sink>(
         (λ x. ended (E.code machine.old) (E.begun (E.code machine.old) x)
         (events_of events.entry (E.code machine.old).procs))
         (E.code machine.old).modulus vectors.old feed.old feed.new
-        (to_come feed.old (I.left input.old)) (to_come feed.new (I.left input.new))
+        (to_come feed.old (I.told input.old)) (to_come feed.new (I.told input.new))
         (O.taken output.old) (O.taken output.new)
         (E.stands machine.old) (E.stands machine.new) result }
     ensures code { E.code machine.new ≡ E.code machine.old }

@@ -54,7 +54,7 @@ pub fn run_stream<I: Source, O: Sink>(
         (run_text lines machine.old.code (turns_of schedule.now machine.old.code.procs))
         (λ x. runs machine.old.code x (turns_of schedule.now machine.old.code.procs))
         machine.old.code.size machine.old.code.modulus feed.old feed.new
-        (to_come feed.old (I.left input.old)) (to_come feed.new (I.left input.new))
+        (to_come feed.old (I.told input.old)) (to_come feed.new (I.told input.new))
         (O.taken output.old) (O.taken output.new) machine.old.state machine.new.state result }
     ensures code { machine.new.code ≡ machine.old.code }
     ensures within { result ≢ Err StreamFault.TooLong → feed.new.taken ≤ limit }
@@ -95,14 +95,14 @@ pub fn run_vectors<I: Source, O: Sink>(
     requires cut { vectors.old.size ≡ machine.old.code.size }
     requires size { length vector.old ≡ machine.old.code.size }
     requires no_stranger { HasNoStranger schedule.now machine.old.code.procs }
-    requires ready { IsReady vectors.old feed.old (to_come feed.old (I.left input.old)) }
+    requires ready { IsReady vectors.old feed.old (to_come feed.old (I.told input.old)) }
 
     // What it read, wrote and left, also of a source that doesn't tell its bytes.
     ensures streams { StreamsOn
         (run_text lines machine.old.code (turns_of schedule.now machine.old.code.procs))
         (λ x. runs machine.old.code x (turns_of schedule.now machine.old.code.procs))
         machine.old.code.modulus vectors.old feed.old feed.new
-        (to_come feed.old (I.left input.old)) (to_come feed.new (I.left input.new))
+        (to_come feed.old (I.told input.old)) (to_come feed.new (I.told input.new))
         (O.taken output.old) (O.taken output.new) machine.old.state machine.new.state result }
     ensures code { machine.new.code ≡ machine.old.code }
     ensures within { result ≢ Err StreamFault.TooLong → feed.new.taken ≤ limit }

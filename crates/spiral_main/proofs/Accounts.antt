@@ -1,12 +1,10 @@
 -- From what a command does to the account of the whole call.
-use Rattle.std.proofs.Common.{◌≡◌, ◌≤◌, ◌++◌, ℕ, List, [], None, Some, Err, length, refl, sym, ap, subst, ◌∙◌, inl, inr}
-use Rattle.std.proofs.Common.{◌+◌, append-nil, append_assoc, arith, false, length-append, true}
-use Rattle.std.proofs.KnownBytes.{prepend_known-nil}
+use Rattle.std.proofs.Common.{◌≡◌, ◌≤◌, ◌++◌, ℕ, List, [], Some, Err, length, refl, sym, ap, subst, inl, inr}
+use Rattle.std.proofs.Common.{◌+◌, append_assoc, arith, false, length-append, true}
 use Rattle.std.specs.declared.option.Option.{Option}
-use Rattle.std.specs.Io.KnownBytes.{Consumes}
 use Rattle.io_edge.specs.Feed.{Fed, limit, most_held, to_come}
-use Rattle.io_edge.specs.Told.{Tells}
-use Rattle.io_edge.proofs.ToldLemmas.{consumes_held, tells_held}
+use Rattle.io_edge.specs.Told.{Tells, Told, rest_of}
+use Rattle.io_edge.proofs.ToldLemmas.{Gives-nil, gives_held, gives_told, tells_held}
 use Rattle.spiral_words.specs.Asked.{IsAsked}
 use Rattle.spiral_words.specs.Statuses.Status.{IsDefined}
 use Rattle.spiral_words.specs.declared.Command.{Command}
@@ -20,7 +18,7 @@ use Rattle.commands.specs.Equations.Commands.{outcomes_of}
 use Rattle.commands.specs.Input.Commands.{commanded}
 use Rattle.commands.specs.Input.Outcomes.{Meets, Outcomes, SourceMeets}
 use Rattle.commands.specs.Input.Refusals.{IsEarly}
-use Rattle.commands.proofs.Inputs.OutcomeLemmas.{all_few, meets_nothing, unread_meets, unread_nothing}
+use Rattle.commands.proofs.Inputs.OutcomeLemmas.{all_few, meets_nothing}
 use Rattle.commands.proofs.Inputs.Within.{Within, meets_within, told_within}
 use Rattle.spiral_main.specs.Outcome.{Accounts, AccountsFor, CallMeetsFor, call_outcomes}
 
@@ -51,82 +49,81 @@ called words wanted asked = record {
   cut = λ read left t taken p. (wanted, asked, p);
 }
 
--- a call of which nothing is held
-pub unheld : (outcomes : Outcomes) (before left out out' : Option (List ℕ)) (status : Status)
-    → SourceMeets outcomes before left out out' status → CallMeetsFor outcomes before left out out' status
-unheld outcomes before left out out' status p = record {
-  used = p.read;
+-- a call that reads nothing
+unread : (outcomes : Outcomes) (input : Told) (out : Option (List ℕ)) (status : Status)
+    → ((bytes : List ℕ) → Meets outcomes bytes bytes input.ended out out status)
+    → CallMeetsFor outcomes input input out out status
+unread outcomes input out status p = record {
+  used = [];
   held = [];
-  consumed = subst (Consumes before left) (sym (append-nil p.read)) p.consumed;
-  within = p.few;
+  gave = Gives-nil input;
+  within = omega arith;
   few = omega arith;
   none = λ _. refl;
-  meets = λ rest tells. p.meets rest tells;
+  meets = λ rest tells. p rest;
 }
 
 -- what the feed holds is left for the feed, and was read from the source
-by_source : (outcomes : Outcomes) (before : Option (List ℕ)) (feed : Fed) (left out out' : Option (List ℕ))
+by_source : (outcomes : Outcomes) (input input' : Told) (first feed : Fed) (out out' : Option (List ℕ))
     (status : Status)
-    → length feed.held ≤ most_held → (status ≡ ReadFault → feed.held ≡ [])
-    → SourceMeets outcomes before (to_come feed left) out out' status
-    → CallMeetsFor outcomes before left out out' status
-by_source outcomes before feed left out out' status few none p = record {
+    → first.held ≡ [] → length feed.held ≤ most_held → (status ≡ ReadFault → feed.held ≡ [])
+    → SourceMeets outcomes (to_come first input) (to_come feed input') out out' status
+    → CallMeetsFor outcomes input input' out out' status
+by_source outcomes input input' first feed out out' status fresh few none p = record {
   used = p.read;
   held = feed.held;
-  consumed = consumes_held before left p.read feed.held p.consumed;
+  gave = gives_held input input' first feed p.read p.consumed fresh;
   within = p.few;
   few = few;
   none = none;
-  meets = λ rest tells. p.meets (feed.held ++ rest) (tells_held feed.held left rest tells);
+  meets = λ rest tells. p.meets (feed.held ++ rest) (tells_held feed.held (rest_of input') rest tells);
 }
 
 -- a command that the words ask for, whose feed held nothing at first
 pub command_told : (words : List (List ℕ)) (given wanted : Command) (first feed : Fed)
-    (before left out out' : Option (List ℕ)) (status : Status)
+    (input input' : Told) (out out' : Option (List ℕ)) (status : Status)
     → first ≡ record { held = []; taken = 0 } → IsAsked words given → given ≡ wanted
     → length feed.held ≤ most_held → (status ≡ ReadFault → feed.held ≡ [])
-    → SourceMeets (outcomes_of wanted) (to_come first before) (to_come feed left) out out' status
-    → CallMeetsFor (call_outcomes words) before left out out' status
-command_told words given wanted first feed before left out out' status fresh asked is few empty told =
-    let start : to_come first before ≡ before = ap (λ (f : Fed). to_come f before) fresh ∙ prepend_known-nil before in
-    by_source (call_outcomes words) before feed left out out' status few empty
-    (told_within (outcomes_of wanted) (call_outcomes words) before (to_come feed left) out out' status
-    (called words wanted (subst (λ (k : Command). IsAsked words k) is asked))
-    (subst (λ b. SourceMeets (outcomes_of wanted) b (to_come feed left) out out' status) start told))
+    → SourceMeets (outcomes_of wanted) (to_come first input) (to_come feed input') out out' status
+    → CallMeetsFor (call_outcomes words) input input' out out' status
+command_told words given wanted first feed input input' out out' status fresh asked is few empty told =
+    by_source (call_outcomes words) input input' first feed out out' status (ap (λ (f : Fed). f.held) fresh) few empty
+    (told_within (outcomes_of wanted) (call_outcomes words) (to_come first input) (to_come feed input') out out' status
+    (called words wanted (subst (λ (k : Command). IsAsked words k) is asked)) told)
 
 -- a call that ends with the words
-pub accounted_words : (words : List (List ℕ)) (before out : Option (List ℕ)) (status : Status)
+pub accounted_words : (words : List (List ℕ)) (input : Told) (out : Option (List ℕ)) (status : Status)
     → (IsDefined status → commanded words (Err status)) → IsEarly status
-    → CallMeetsFor (call_outcomes words) before before out out status
-accounted_words words before out status refused early =
-    unheld (call_outcomes words) before before out out status
-    (unread_meets (call_outcomes words) before out out status (λ bytes.
-    meets_nothing (call_outcomes words) bytes bytes out status (λ d. inl (refused d, refl)) early.read early.write))
+    → CallMeetsFor (call_outcomes words) input input out out status
+accounted_words words input out status refused early = unread (call_outcomes words) input out status (λ bytes.
+    meets_nothing (call_outcomes words) bytes bytes input.ended out status
+    (λ d. inl (refused d, refl)) early.read early.write)
 
 -- and one that has no memory to begin with
-pub accounted_nothing : (words : List (List ℕ)) (before out : Option (List ℕ))
-    → CallMeetsFor (call_outcomes words) before before out out NoMemory
-accounted_nothing words before out =
-    unheld (call_outcomes words) before before out out NoMemory (unread_nothing (call_outcomes words) before out)
+pub accounted_nothing : (words : List (List ℕ)) (input : Told) (out : Option (List ℕ))
+    → CallMeetsFor (call_outcomes words) input input out out NoMemory
+accounted_nothing words input out = unread (call_outcomes words) input out NoMemory (λ bytes.
+    meets_nothing (call_outcomes words) bytes bytes input.ended out NoMemory (λ d. absurd (d.memory refl)) (λ e. cc)
+    (λ e. cc))
 
 -- more is right for the call
-pub call_within : (a b : Outcomes) (before left out out' : Option (List ℕ)) (status : Status) → Within a b
+pub call_within : (a b : Outcomes) (before left : Told) (out out' : Option (List ℕ)) (status : Status) → Within a b
     → CallMeetsFor a before left out out' status → CallMeetsFor b before left out out' status
 call_within a b before left out out' status w m = record {
   used = m.used;
   held = m.held;
-  consumed = m.consumed;
+  gave = m.gave;
   within = omega (arith, m.within, w.most);
   few = m.few;
   none = m.none;
   meets = λ rest tells.
-      meets_within a b (m.used ++ (m.held ++ rest)) (m.held ++ rest) out out' status w (m.meets rest tells);
+      meets_within a b (m.used ++ (m.held ++ rest)) (m.held ++ rest) left.ended out out' status w (m.meets rest tells);
 }
 
 -- of an input that may have these bytes left
-pub told_left : (words : List (List ℕ)) (input input' before after : Option (List ℕ)) (status : Status)
-    (told : AccountsFor words input input' before after status) (left : List ℕ) → Tells input' left
-    → Accounts words ((told.used ++ told.held) ++ left) left before after status
+pub told_left : (words : List (List ℕ)) (input input' : Told) (before after : Option (List ℕ)) (status : Status)
+    (told : AccountsFor words input input' before after status) (left : List ℕ) → Tells (rest_of input') left
+    → Accounts words ((told.used ++ told.held) ++ left) left input'.ended before after status
 told_left words input input' before after status told left tells = record {
   held = told.held;
   few = told.few;
@@ -137,18 +134,20 @@ told_left words input input' before after status told left tells = record {
       let rest = length-append told.held left in
       omega (arith, told.within, all, read, rest);
   meets =
-      subst (λ (b : List ℕ). Meets (call_outcomes words) b (told.held ++ left) before after status)
+      subst (λ (b : List ℕ). Meets (call_outcomes words) b (told.held ++ left) input'.ended before after status)
       (sym (append_assoc told.used told.held left)) (told.meets left tells);
 }
 
 -- of an input that tells its bytes
-pub told_input : (words : List (List ℕ)) (bytes : List ℕ) (left before after : Option (List ℕ)) (status : Status)
-    → AccountsFor words (Some bytes) left before after status
-    → (rest : List ℕ) × (left ≡ Some rest) × Accounts words bytes rest before after status
-told_input words bytes None before after status p = absurd p.consumed
-told_input words bytes (Some rest) before after status p = (
-  rest,
-  refl,
-  subst (λ (b : List ℕ). Accounts words b rest before after status) (sym p.consumed)
-      (told_left words (Some bytes) (Some rest) before after status p rest refl),
-)
+pub told_input : (words : List (List ℕ)) (bytes : List ℕ) (input input' : Told) (before after : Option (List ℕ))
+    (status : Status)
+    → rest_of input ≡ Some bytes → AccountsFor words input input' before after status
+    → (rest : List ℕ) × (rest_of input' ≡ Some rest) × Accounts words bytes rest input'.ended before after status
+told_input words bytes input input' before after status tells p =
+    let left = gives_told input input' bytes (p.used ++ p.held) tells p.gave in (
+      left.0,
+      left.1,
+      subst (λ (b : List ℕ). Accounts words b left.0 input'.ended before after status) (sym left.2)
+          (told_left words input input' before after status p left.0
+          (subst (λ (k : Option (List ℕ)). Tells k left.0) (sym left.1) refl)),
+    )

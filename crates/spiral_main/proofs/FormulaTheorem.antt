@@ -1,5 +1,6 @@
 -- The theorem of the commands for formulas and for convolutions, from the laws on them.
-use Rattle.std.proofs.Common.{◌≡◌, ◌≤◌, ◌<◌, ◌^◌, ◌∙◌, ℕ, true, false, List, [], ◌∷◌, None, Ok, ap, arith, codes, inr, refl}
+use Rattle.std.proofs.Common.{Bool, ◌≡◌, ◌≤◌, ◌<◌, ◌^◌, ◌∙◌, ℕ, true, false, List, [], ◌∷◌, None, Ok, ap, arith}
+use Rattle.std.proofs.Common.{codes, inr, refl}
 use Rattle.std.proofs.Common.{sym}
 use Rattle.std.proofs.lemmas.List.Elements.{All-nil}
 use Rattle.std.specs.declared.option.Option.{Option}
@@ -14,6 +15,7 @@ use Rattle.commands.specs.Input.Commands.{admitted, first_stranger}
 use Rattle.commands.proofs.FormulaLemmas.Programs.{formula_programs_are_code}
 use Rattle.commands.proofs.FormulaLemmas.Shaped.{written_few, written_shaped}
 use Rattle.commands.proofs.GoodPrograms.{conv_programs_convolve}
+use Rattle.io_edge.specs.Told.{Told}
 use Rattle.listing_text.specs.Listing.{listing_of}
 use Rattle.matrix_meaning.specs.Convolution.{convolution}
 use Rattle.matrix_meaning.specs.declared.Request.{Request}
@@ -67,17 +69,18 @@ right_convolver r t h able planned =
       cheapest = λ u is. let less = planned.2.least u is in omega (arith, less);
     }
 
-right_answer : (words : List (List ℕ)) (bytes left : List ℕ) (before after : Option (List ℕ)) (status : Status)
-    → Accounts words bytes left before after status → IsDefined status
+right_answer : (words : List (List ℕ)) (bytes left : List ℕ) (ended : Bool) (before after : Option (List ℕ))
+    (status : Status)
+    → Accounts words bytes left ended before after status → IsDefined status
     → IsRightFormulaAnswer words bytes before after status
-right_answer words bytes left before after status accounts well = record {
+right_answer words bytes left ended before after status accounts well = record {
   compile = λ options m f found modulus right.
       let program = program_for m f in
       let first = (line 65536).first bytes in
       let few : parts_of f ≤ 65536 =
       (let most = written_few first f right.spells in let short = right.short in omega (arith, most, short)) in
       let own = right_code m f modulus.1 modulus.0.0 (written_shaped first f right.spells) few in
-      writes words bytes left before after status _ (listing_of program) accounts well
+      writes words bytes left ended before after status _ (listing_of program) accounts well
       (inr (
         command.ByFormula m formula_command.Compile,
         (codes "compile", options, found, (refl, modulus)),
@@ -92,7 +95,7 @@ right_answer words bytes left before after status accounts well = record {
         before = right.spells;
         behind = sym (ap (λ stranger. admitted stranger 1 f) none);
       } in
-      writes words bytes left before after status (λ t. t ≡ text) text accounts well
+      writes words bytes left ended before after status (λ t. t ≡ text) text accounts well
       (inr (
         command.ByFormula m (formula_command.Apply schedule),
         (codes "apply", options, found, (refl, modulus, scheduled)),
@@ -103,7 +106,7 @@ right_answer words bytes left before after status accounts well = record {
       let program = conv_emission plan.request plan.tree h in
       let able = conv_in_range ((line 256).first bytes) plan.request right.spells.0 right.spells.1 in
       let own = right_convolver plan.request plan.tree h able right.planned in
-      writes words bytes left before after status _ (listing_of program) accounts well
+      writes words bytes left ended before after status _ (listing_of program) accounts well
       (inr (
         command.ByList schedule true,
         (codes "convolve", options, found, (refl, scheduled, listed)),
@@ -112,7 +115,7 @@ right_answer words bytes left before after status accounts well = record {
       (lists (IsRightConvolver plan.request plan.tree h) program own own.leaves.listed);
   convolve = λ options schedule plan h later found scheduled unlisted right vectors same.
       let text = lines (convolution plan.request.modulus plan.request.size h) later in
-      writes words bytes left before after status (λ t. t ≡ text) text accounts well
+      writes words bytes left ended before after status (λ t. t ≡ text) text accounts well
       (inr (
         command.ByList schedule false,
         (codes "convolve", options, found, (refl, scheduled, unlisted)),
@@ -122,13 +125,14 @@ right_answer words bytes left before after status accounts well = record {
 }
 
 pub formulas_are_right : FormulasAreRight
-formulas_are_right words bytes left before after status told well =
-    let rest = told_input words bytes left before after status told in
-    right_answer words bytes rest.0 before after status rest.2 well
+formulas_are_right words bytes input input' before after status tells told well =
+    let rest = told_input words bytes input input' before after status tells told in
+    right_answer words bytes rest.0 input'.ended before after status rest.2 well
 
-pub formula_run_is_right : (words : List (List ℕ)) (input input' before after : Option (List ℕ)) (status : Status)
+pub formula_run_is_right : (words : List (List ℕ)) (input input' : Told) (before after : Option (List ℕ))
+    (status : Status)
     → AccountsFor words input input' before after status → IsDefined status
     → IsRightFormulaRun words input input' before after status
 formula_run_is_right words input input' before after status told well =
     what_was_read (λ bytes. IsRightFormulaAnswer words bytes before after status) words input input' before after status
-    told (λ bytes left accounts. right_answer words bytes left before after status accounts well)
+    told (λ bytes left accounts. right_answer words bytes left input'.ended before after status accounts well)

@@ -2,9 +2,11 @@ pub mod Accounts
 pub mod Calls
 pub mod Generators
 pub mod Good
+pub mod Lines
 pub mod OneAnswer
 pub mod OnePlan
 pub mod OneSide
+pub mod OneText
 pub mod OneWork
 pub mod RightCalls
 pub mod RightFront

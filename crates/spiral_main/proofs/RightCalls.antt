@@ -169,10 +169,11 @@ memory_or : (s : Status) → (s ≡ NoMemory) ⊎ (s ≢ NoMemory)
 memory_or NoMemory = inl refl
 memory_or other = inr (λ e. cc)
 
-pub right_calls : (words : List (List ℕ)) (bytes left : List ℕ) (before after : Option (List ℕ)) (s : Status) →
-    IsRightCall words bytes → Accounts words bytes left before after s
+pub right_calls : (words : List (List ℕ)) (bytes left : List ℕ) (ended : Bool) (before after : Option (List ℕ))
+    (s : Status) →
+    IsRightCall words bytes → Accounts words bytes left ended before after s
     → s ≢ ReadFault → s ≢ WriteFault → (s ≡ NoMemory) ⊎ Succeeds words bytes before after s
-right_calls words bytes left before after s right accounts read write =
+right_calls words bytes left ended before after s right accounts read write =
     elim (memory_or s) [
       | inl none ↦ inl none
       | inr memory ↦

@@ -1,5 +1,5 @@
 -- A call that is right in all that its command asks of it has the outcome Success, with the text that it calls for.
-use Rattle.std.proofs.Common.{◌≡◌, ◌≢◌, ◌≤◌, ℕ, true, false, List, [], ◌∷◌, length, take, None, Ok}
+use Rattle.std.proofs.Common.{Bool, ◌≡◌, ◌≢◌, ◌≤◌, ℕ, true, false, List, [], ◌∷◌, length, take, None, Ok}
 use Rattle.std.proofs.Common.{nat_lt, refl, sym, ap, subst, ◌∙◌, arith, append-nil, inr}
 use Rattle.std.proofs.lemmas.Grind.{common_steps}
 use Rattle.std.proofs.lemmas.List.{take_all}
@@ -164,11 +164,12 @@ executed_is_right schedule bytes program short gives vectors =
     (whole_answer program.size program.modulus (λ vs t. t ≡ lines (result_of program) vs) (room_behind (part 1048576) bytes) ((part 1048576).behind bytes) text vectors refl)
 
 -- a call whose outcome is Success with this text succeeds with it, but for the outside and memory
-pub right_success : (words : List (List ℕ)) (bytes left : List ℕ) (before after : Option (List ℕ)) (s : Status)
+pub right_success : (words : List (List ℕ)) (bytes left : List ℕ) (ended : Bool) (before after : Option (List ℕ))
+    (s : Status)
     (t : List ℕ) → IsOutcome words bytes Success t
-    → Accounts words bytes left before after s → s ≢ ReadFault → s ≢ WriteFault → s ≢ NoMemory
+    → Accounts words bytes left ended before after s → s ≢ ReadFault → s ≢ WriteFault → s ≢ NoMemory
     → (s ≡ Success) × Appends before after t
-right_success words bytes left before after s t own accounts read write memory =
+right_success words bytes left ended before after s t own accounts read write memory =
     let found = accounts.meets.answer (record { read = read; write = write; memory = memory }) in
     let same : found.0 ≡ t = one_text words bytes s Success found.0 t found.1 own in
     (one_status words bytes s Success found.0 t found.1 own, subst (λ u. Appends before after u) same found.2)

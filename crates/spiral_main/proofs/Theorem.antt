@@ -1,5 +1,5 @@
 -- The theorem of the program, from the laws on the commands.
-use Rattle.std.proofs.Common.{◌≡◌, ◌<◌, ◌≤◌, ◌^◌, ◌∙◌, ℕ, List, [], ◌++◌, Ok, ap, codes, inr, length, refl, sym}
+use Rattle.std.proofs.Common.{Bool, ◌≡◌, ◌<◌, ◌≤◌, ◌^◌, ◌∙◌, ℕ, List, [], ◌++◌, Ok, ap, codes, inr, length, refl, sym}
 use Rattle.std.proofs.lemmas.List.Elements.{All-nil}
 use Rattle.std.specs.declared.option.Option.{Option}
 use Rattle.commands.specs.Emission.Whole.{emission}
@@ -21,6 +21,7 @@ use Rattle.icode.specs.Limits.{IsWithinLimits}
 use Rattle.icode.specs.Plain.{PlainProgram}
 use Rattle.icode.specs.Machine.{IsApart, padded, results, words_at}
 use Rattle.icode.specs.declared.event.Event.{Event}
+use Rattle.io_edge.specs.Told.{Told}
 use Rattle.listing_text.specs.Listing.{listing_of}
 use Rattle.listing_text.specs.Texts.{is_listing}
 use Rattle.matrix_meaning.specs.Asked.{asked_of}
@@ -115,20 +116,23 @@ lists_right names bytes plan right =
     lists (IsRightProgram plan.request plan.tree) (emission plan.request plan.tree) own own.leaves.listed
 
 -- an outcome that is Success, with a text that has P
-pub writes : (words : List (List ℕ)) (bytes left : List ℕ) (before after : Option (List ℕ)) (status : Status)
-    (P : List ℕ → Type 0) (text : List ℕ) → Accounts words bytes left before after status → IsDefined status
+pub writes : (words : List (List ℕ)) (bytes left : List ℕ) (ended : Bool) (before after : Option (List ℕ))
+    (status : Status)
+    (P : List ℕ → Type 0) (text : List ℕ) → Accounts words bytes left ended before after status → IsDefined status
     → IsOutcome words bytes Success text → P text → Writes P before after status
-writes words bytes left before after status P text accounts well own right =
-    let found = right_success words bytes left before after status text own accounts well.read well.write well.memory in
+writes words bytes left ended before after status P text accounts well own right =
+    let found = right_success words bytes left ended before after status text own accounts well.read well.write well.memory in
     record { success = found.0; text = text; right = right; took = found.1 }
 
-right_answer : (words : List (List ℕ)) (bytes left : List ℕ) (before after : Option (List ℕ)) (status : Status)
-    → Accounts words bytes left before after status → IsDefined status
+right_answer : (words : List (List ℕ)) (bytes left : List ℕ) (ended : Bool) (before after : Option (List ℕ))
+    (status : Status)
+    → Accounts words bytes left ended before after status → IsDefined status
     → IsRightAnswer words bytes before after status
-right_answer words bytes left before after status accounts well = record {
+right_answer words bytes left ended before after status accounts well = record {
   code = λ options plan found right.
       let text = listing_of (emission plan.request plan.tree) in
-      writes words bytes left before after status (Lists (IsRightProgram plan.request plan.tree)) text accounts well
+      writes words bytes left ended before after status
+      (Lists (IsRightProgram plan.request plan.tree)) text accounts well
       (inr (
         command.ByRequest (request.Writes document.Code),
         (codes "code", options, found, refl),
@@ -137,7 +141,7 @@ right_answer words bytes left before after status accounts well = record {
       (lists_right [] bytes plan right);
   run = λ options order plan found ordered right vectors.
       let text = lines (asked_of plan.request) (request_vectors plan bytes) in
-      writes words bytes left before after status (λ t. t ≡ text) text accounts well
+      writes words bytes left ended before after status (λ t. t ≡ text) text accounts well
       (inr (
         command.ByRequest (request.Runs order),
         (codes "run", options, found, (refl, ordered)),
@@ -147,27 +151,27 @@ right_answer words bytes left before after status accounts well = record {
 }
 
 pub program_is_right : TheProgramIsRight
-program_is_right words bytes left before after status told well =
-    let rest = told_input words bytes left before after status told in
-    right_answer words bytes rest.0 before after status rest.2 well
+program_is_right words bytes input input' before after status tells told well =
+    let rest = told_input words bytes input input' before after status tells told in
+    right_answer words bytes rest.0 input'.ended before after status rest.2 well
 
 -- what was read of any input has what the bytes of every told one have
-pub what_was_read : (P : List ℕ → Type 0) (words : List (List ℕ)) (input input' before after : Option (List ℕ))
-    (status : Status) → AccountsFor words input input' before after status
-    → ((bytes left : List ℕ) → Accounts words bytes left before after status → P bytes)
+pub what_was_read : (P : List ℕ → Type 0) (words : List (List ℕ)) (input input' : Told)
+    (before after : Option (List ℕ)) (status : Status) → AccountsFor words input input' before after status
+    → ((bytes left : List ℕ) → Accounts words bytes left input'.ended before after status → P bytes)
     → OfWhatWasRead P input input'
 what_was_read P words input input' before after status told has =
     let read : List ℕ = told.used ++ told.held in
     record {
       read = read;
-      consumed = told.consumed;
+      gave = told.gave;
       right = λ left tells.
           has (read ++ left) left (told_left words input input' before after status told left tells);
     }
 
-pub any_run_is_right : (words : List (List ℕ)) (input input' before after : Option (List ℕ)) (status : Status)
+pub any_run_is_right : (words : List (List ℕ)) (input input' : Told) (before after : Option (List ℕ)) (status : Status)
     → AccountsFor words input input' before after status → IsDefined status
     → IsRightRun words input input' before after status
 any_run_is_right words input input' before after status told well =
     what_was_read (λ bytes. IsRightAnswer words bytes before after status) words input input' before after status told
-    (λ bytes left accounts. right_answer words bytes left before after status accounts well)
+    (λ bytes left accounts. right_answer words bytes left input'.ended before after status accounts well)

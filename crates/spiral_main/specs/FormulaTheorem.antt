@@ -27,6 +27,7 @@ use Rattle.schedules.specs.Schedule.{Plan as Turns}
 use Rattle.schedules.specs.Turns.{named}
 use Rattle.runs.specs.Stream.{lines}
 use Rattle.sigma_lower.specs.Operations.{operations}
+use Rattle.io_edge.specs.Told.{Told, rest_of}
 use Rattle.spiral_main.specs.Good.{vectors_read}
 use Rattle.spiral_main.specs.RightFront.{HasWholeVectors, IsRightConvLine, IsRightFormulaLine}
 use Rattle.spiral_main.specs.RightFront.{request_vectors, vectors_behind}
@@ -92,11 +93,11 @@ pub record IsRightFormulaAnswer (words : List (List ℕ)) (bytes : List ℕ) (be
 -- runs out
 abbrev pub FormulasAreRight : Type 0
 FormulasAreRight =
-    (words : List (List ℕ)) (bytes : List ℕ) (left before after : Option (List ℕ)) (status : Status) →
-    AccountsFor words (Some bytes) left before after status → IsDefined status →
+    (words : List (List ℕ)) (bytes : List ℕ) (input input' : Told) (before after : Option (List ℕ)) (status : Status) →
+    rest_of input ≡ Some bytes → AccountsFor words input input' before after status → IsDefined status →
     IsRightFormulaAnswer words bytes before after status
 
 -- what is right for a call of any input
-abbrev pub IsRightFormulaRun : List (List ℕ) → (input input' before after : Option (List ℕ)) → Status → Type 0
+abbrev pub IsRightFormulaRun : List (List ℕ) → (input input' : Told) (before after : Option (List ℕ)) → Status → Type 0
 IsRightFormulaRun words input input' before after status =
     OfWhatWasRead (λ bytes. IsRightFormulaAnswer words bytes before after status) input input'

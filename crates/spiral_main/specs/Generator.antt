@@ -22,6 +22,7 @@ use Rattle.commands.specs.Planned.{IsPlanned}
 use Rattle.commands.specs.Input.Orders.{procs_in}
 use Rattle.commands.specs.Input.Outcomes.{Outcomes}
 use Rattle.icode.specs.Plain.{PlainProgram}
+use Rattle.io_edge.specs.Told.{Told}
 use Rattle.listing_text.specs.Listing.{listing_of}
 use Rattle.matrix_meaning.specs.Valid.{IsInRange}
 use Rattle.matrix_meaning.specs.declared.Request.{Request}
@@ -100,7 +101,7 @@ outcomes_by g (ByList schedule true) = convolver_by schedule g
 pub record IsTheGenerator (g : Generator) : Type 0 where
   pub answers : (words : List (List ℕ)) (command : Command) (bytes : List ℕ) (status : Status) (text : List ℕ) →
       IsAsked words command → (IsOutcome words bytes status text ↔ (outcomes_by g command).answer bytes status text)
-  pub told : (words : List (List ℕ)) (input input' before after : Option (List ℕ)) (status : Status) →
+  pub told : (words : List (List ℕ)) (input input' : Told) (before after : Option (List ℕ)) (status : Status) →
       (AccountsFor words input input' before after status
       ↔ CallMeetsFor (outcomes_for (outcomes_by g) words) input input' before after status)
 

@@ -6,3 +6,4 @@ pub mod Right
 pub mod Theorem
 pub mod FormulaTheorem
 pub mod Generator
+pub mod OneText

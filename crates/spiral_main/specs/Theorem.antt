@@ -21,9 +21,10 @@
 --   AccountsFor             what the clause `told` of `spiral_run` says of words, input, output and status
 --   IsDefined status        no read or write failed, and memory did not run out
 --   Appends before after t  the output held `before`, took the bytes t, and holds `after`
+--   Gives before after bs   the input stood at `before`, gave the bytes bs in the call, and stands at `after`
 use Rattle.std.specs.Prelude.{◌≡◌, ℕ, ◌*◌, ◌<◌, ◌≤◌, List, [], ◌++◌, Some, codes}
 use Rattle.std.specs.declared.option.Option.{Option}
-use Rattle.std.specs.Io.KnownBytes.{Appends, Consumes}
+use Rattle.std.specs.Io.KnownBytes.{Appends}
 use Rattle.commands.specs.Equations.Front.{line}
 use Rattle.commands.specs.Equations.Orders.{Planned}
 use Rattle.commands.specs.Good.{HasHeader}
@@ -37,7 +38,7 @@ use Rattle.icode.specs.Machine.{IsApart, results, weighted, whole_counts}
 use Rattle.icode.specs.Plain.{PlainProgram}
 use Rattle.icode.specs.declared.action.Counts.{Counts}
 use Rattle.icode.specs.declared.event.Event.{Event}
-use Rattle.io_edge.specs.Told.{Tells}
+use Rattle.io_edge.specs.Told.{Gives, Tells, Told, rest_of}
 use Rattle.listing_text.specs.Listing.{listing_of}
 use Rattle.listing_text.specs.Texts.{is_listing}
 use Rattle.matrix_meaning.specs.Asked.{asked_of}
@@ -120,18 +121,18 @@ pub record IsRightAnswer (words : List (List ℕ)) (bytes : List ℕ) (before af
 -- runs out
 abbrev pub TheProgramIsRight : Type 0
 TheProgramIsRight =
-    (words : List (List ℕ)) (bytes : List ℕ) (left before after : Option (List ℕ)) (status : Status) →
-    AccountsFor words (Some bytes) left before after status → IsDefined status →
+    (words : List (List ℕ)) (bytes : List ℕ) (input input' : Told) (before after : Option (List ℕ)) (status : Status) →
+    rest_of input ≡ Some bytes → AccountsFor words input input' before after status → IsDefined status →
     IsRightAnswer words bytes before after status
 
 -- any input gave these bytes, and with all that it may have left they have P. One that does not tell its bytes may have
 -- any left
-pub record OfWhatWasRead (P : List ℕ → Type 0) (input input' : Option (List ℕ)) : Type 0 where
+pub record OfWhatWasRead (P : List ℕ → Type 0) (input input' : Told) : Type 0 where
   pub read : List ℕ
-  pub consumed : Consumes input input' read
-  pub right : (left : List ℕ) → Tells input' left → P (read ++ left)
+  pub gave : Gives input input' read
+  pub right : (left : List ℕ) → Tells (rest_of input') left → P (read ++ left)
 
 -- what is right for a call of any input
-abbrev pub IsRightRun : List (List ℕ) → (input input' before after : Option (List ℕ)) → Status → Type 0
+abbrev pub IsRightRun : List (List ℕ) → (input input' : Told) (before after : Option (List ℕ)) → Status → Type 0
 IsRightRun words input input' before after status =
     OfWhatWasRead (λ bytes. IsRightAnswer words bytes before after status) input input'

@@ -3,12 +3,8 @@
 ghost use Rattle.std.specs.Prelude.{ℕ, true, false, List, Ok, ◌↔◌, codes};
 ghost use Rattle.schedules.specs.Schedule.{Plan as SpecSchedule};
 ghost use Rattle.commands.specs.Equations.Apply.{apply_answer};
-ghost use Rattle.commands.specs.Equations.C.{c_answer};
-ghost use Rattle.commands.specs.Equations.Code.{code_answer};
 ghost use Rattle.commands.specs.Equations.Commands.{outcomes_of};
-ghost use Rattle.commands.specs.Equations.Compile.{compile_answer};
-ghost use Rattle.commands.specs.Equations.Convolve.{convolve_answer, convolver_answer};
-ghost use Rattle.commands.specs.Equations.Trace.{trace_answer};
+ghost use Rattle.commands.specs.Equations.Convolve.{convolve_answer};
 ghost use Rattle.commands.specs.Equations.Cert.{cert_answer};
 ghost use Rattle.commands.specs.Equations.Check.{check_answer};
 ghost use Rattle.commands.specs.Equations.Exec.{exec_answer};
@@ -22,6 +18,7 @@ ghost use Rattle.commands.specs.Formulas.Code.{IsCodeOf};
 ghost use Rattle.listing_text.specs.Listing.{listing_of};
 ghost use Rattle.schedules.specs.Turns.{named};
 ghost use Rattle.spiral_main.specs.Generator.{OneGenerator};
+ghost use Rattle.spiral_main.specs.OneText.{CompilesOne, ConvolvesByOne, PrintsOne, TracesOne};
 ghost use Rattle.spiral_main.specs.Good.{IsGoodFor, IsLeanFor, Prints, Shows, ShowsConvolver, Traces, vectors_read};
 ghost use Rattle.spiral_main.specs.Traced.{EndsWithResults};
 ghost use Rattle.spiral_main.specs.RightFront.{IsRightConvLine, IsRightFormulaLine, IsRightLine};
@@ -62,18 +59,14 @@ pub fn formula_answers()
         → IsOutcome words bytes status text → formula_answer bytes status text }
 {}
 
-/// What `code` answers.
+/// What `code` answers: there is one program for each request and tree, and its listing is the text.
 pub fn code_answers()
-    ensures { (words : List (List ℕ)) (options : Options) (bytes : List ℕ)
-        (status : SpecStatus) (text : List ℕ) → Names words (codes "code") options
-        → IsOutcome words bytes status text → code_answer bytes status text }
+    ensures { PrintsOne (codes "code") listing_of }
 {}
 
-/// What `c` answers.
+/// What `c` answers: the same with the program's C text.
 pub fn c_answers()
-    ensures { (words : List (List ℕ)) (options : Options) (bytes : List ℕ)
-        (status : SpecStatus) (text : List ℕ) → Names words (codes "c") options
-        → IsOutcome words bytes status text → c_answer bytes status text }
+    ensures { PrintsOne (codes "c") c_text_of }
 {}
 
 /// What `run` answers.
@@ -83,11 +76,9 @@ pub fn run_answers()
         → IsOutcome words bytes status text → run_answer order bytes status text }
 {}
 
-/// What `trace` answers.
+/// What `trace` answers: the same with the program's listing and runs.
 pub fn trace_answers()
-    ensures { (order : SpecOrder) (words : List (List ℕ)) (options : Options) (bytes : List ℕ)
-        (status : SpecStatus) (text : List ℕ) → Names words (codes "trace") options → AsksOrder options order
-        → IsOutcome words bytes status text → trace_answer order bytes status text }
+    ensures { TracesOne }
 {}
 
 /// What `cert` answers.
@@ -112,11 +103,9 @@ pub fn sample_answers()
         → IsOutcome words bytes status text → sample_answer seed schedule bytes status text }
 {}
 
-/// What `compile` answers.
+/// What `compile` answers: there is one program for each formula, and its listing is the text.
 pub fn compile_answers()
-    ensures { (m : ℕ) (words : List (List ℕ)) (options : Options) (bytes : List ℕ)
-        (status : SpecStatus) (text : List ℕ) → Names words (codes "compile") options → AsksModulus options m
-        → IsOutcome words bytes status text → compile_answer m bytes status text }
+    ensures { CompilesOne }
 {}
 
 /// What `apply` answers.
@@ -142,12 +131,10 @@ pub fn convolve_answers()
         → IsOutcome words bytes status text → convolve_answer schedule bytes status text }
 {}
 
-/// What `convolve --code` answers.
+/// What `convolve --code` answers: there is one program for each request, tree and first vector, and its listing is the
+/// text.
 pub fn convolver_answers()
-    ensures { (schedule : SpecSchedule) (words : List (List ℕ)) (options : Options) (bytes : List ℕ)
-        (status : SpecStatus) (text : List ℕ) → Names words (codes "convolve") options → AsksSchedule options schedule
-        → AsksCode options true
-        → IsOutcome words bytes status text → convolver_answer schedule bytes status text }
+    ensures { ConvolvesByOne }
 {}
 
 /// The listing that `code` prints for a right line is that of a program that is good for the line's request.

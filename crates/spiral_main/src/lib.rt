@@ -1,9 +1,10 @@
 //! The program: words and an input to an output, a note and a status.
 #![tactic(auto)]
 
-ghost use Rattle.std.specs.Prelude.{◌≡◌, ◌≢◌, ◌⊎◌, ℕ, List, Ok, Some};
+ghost use Rattle.std.specs.Prelude.{◌≡◌, ◌≢◌, ◌⊎◌, Bool, ℕ, List, Ok, Some};
 ghost use Rattle.std.specs.declared.option.Option.{Option};
 ghost use Rattle.commands.specs.Planned.{IsPlanned};
+ghost use Rattle.io_edge.specs.Told.{Told, rest_of};
 ghost use Rattle.matrix_meaning.specs.Valid.{IsInRange, IsValid};
 ghost use Rattle.matrix_meaning.specs.declared.Request.{Request as SpecRequest};
 ghost use Rattle.spiral_words.specs.declared.statuses.status.Status.{Status as SpecStatus};
@@ -16,6 +17,8 @@ ghost use Rattle.tree_model.specs.Breakdown.{Breakdown};
 ghost use Rattle.tree_model.specs.Chosen.{CanDivideWhole};
 
 pub mod answers;
+pub mod inputs;
+pub mod letters;
 pub mod rights;
 mod run;
 
@@ -52,17 +55,18 @@ pub fn calls_have_one_text()
 /// Of an input that tells its bytes, these and the words account for the status and the output, and the input tells
 /// what is left of them.
 pub fn told_inputs_are_accounted_for()
-    ensures { (words : List (List ℕ)) (bytes : List ℕ) (left before after : Option (List ℕ))
-        (status : SpecStatus) → AccountsFor words (Some bytes) left before after status
-        → (rest : List ℕ) × (left ≡ Some rest) × Accounts words bytes rest before after status }
+    ensures { (words : List (List ℕ)) (bytes : List ℕ) (input input' : Told) (before after : Option (List ℕ))
+        (status : SpecStatus) → rest_of input ≡ Some bytes
+        → AccountsFor words input input' before after status
+        → (rest : List ℕ) × (rest_of input' ≡ Some rest) × Accounts words bytes rest input'.ended before after status }
 {}
 
 /// A call that is right in all that is asked of it succeeds with the text that its words and bytes call for, unless a
 /// read or a write fails or memory runs out.
 pub fn right_calls_succeed()
-    ensures { (words : List (List ℕ)) (bytes left : List ℕ) (before after : Option (List ℕ))
+    ensures { (words : List (List ℕ)) (bytes left : List ℕ) (ended : Bool) (before after : Option (List ℕ))
         (status : SpecStatus) → IsRightCall words bytes
-        → Accounts words bytes left before after status
+        → Accounts words bytes left ended before after status
         → status ≢ ReadFault → status ≢ WriteFault
         → (status ≡ NoMemory) ⊎ Succeeds words bytes before after status }
 {}

@@ -1,5 +1,5 @@
 // Calls that are right in all that their command asks of them, and what they come to.
-ghost use Rattle.std.specs.Prelude.{◌≡◌, ◌≢◌, ◌≤◌, ℕ, List, [], ◌∷◌, ◌++◌, length, true, false, Ok, codes};
+ghost use Rattle.std.specs.Prelude.{◌≡◌, ◌≢◌, ◌≤◌, Bool, ℕ, List, [], ◌∷◌, ◌++◌, length, true, false, Ok, codes};
 ghost use Rattle.commands.specs.Formulas.Letters as programs;
 ghost use Rattle.commands.specs.Emission.Whole.{emission};
 ghost use Rattle.c_print.specs.CText.{c_text_of};
@@ -43,9 +43,9 @@ ghost use Rattle.spiral_main.specs.Good.{vectors_read};
 
 /// An outcome that is Success is what a call comes to, unless a read or a write fails or memory runs out.
 pub fn outcomes_come()
-    ensures { (words : List (List ℕ)) (bytes left : List ℕ) (before after : Option (List ℕ))
+    ensures { (words : List (List ℕ)) (bytes left : List ℕ) (ended : Bool) (before after : Option (List ℕ))
         (status : SpecStatus) (text : List ℕ) → IsOutcome words bytes Success text
-        → Accounts words bytes left before after status
+        → Accounts words bytes left ended before after status
         → status ≢ ReadFault → status ≢ WriteFault → status ≢ NoMemory
         → (status ≡ Success) × Appends before after text }
 {}

@@ -1,7 +1,6 @@
 // The top call.
-ghost use Rattle.std.specs.Prelude.{◌≡◌, ◌⊎◌, [], map, string_bytes};
+ghost use Rattle.std.specs.Prelude.{◌≡◌, ◌⊎◌, true, [], map, string_bytes};
 ghost use Rattle.std.specs.Io.KnownBytes.{Appends};
-ghost use Rattle.io_edge.specs.Told.{IsOver};
 ghost use Rattle.io_edge.specs.Faults.{Reports};
 ghost use Rattle.commands.specs.Input.Commands.{AskForRest, AskForCommand, AreJudged};
 ghost use Rattle.spiral_main.specs.Outcome.{AccountsFor, Notes};
@@ -25,10 +24,10 @@ fn work<I: Source, O: Sink>(
     output: &mut O,
 ) -> Result<(), Status>
     ensures told { AccountsFor (map string_bytes words.now.items)
-        (I.left input.old) (I.left input.new) (O.taken output.old) (O.taken output.new)
+        (I.told input.old) (I.told input.new) (O.taken output.old) (O.taken output.new)
         (status_of result) }
     ensures end { status_of result ≡ Status.Success
-        → AskForRest (map string_bytes words.now.items) → IsOver (I.left input.new) }
+        → AskForRest (map string_bytes words.now.items) → (I.told input.new).ended ≡ true }
     ensures read { Reports (I.faults input.old) (I.faults input.new)
         (status_of result ≡ Status.ReadFault) }
     ensures write { Reports (O.faults output.old) (O.faults output.new)
@@ -93,18 +92,18 @@ pub fn spiral_run<I: Source, O: Sink, E: Sink>(
 ) -> Status
     // The theorem: what `code` prints is right, and what `run` writes.
     ensures right { IsDefined result → IsRightRun (map string_bytes words.now.items)
-        (I.left input.old) (I.left input.new) (O.taken output.old) (O.taken output.new) result }
+        (I.told input.old) (I.told input.new) (O.taken output.old) (O.taken output.new) result }
     // And for formulas and convolutions: what `compile` and `convolve --code` print, and what `apply` and `convolve` write.
     ensures formulas { IsDefined result → IsRightFormulaRun (map string_bytes words.now.items)
-        (I.left input.old) (I.left input.new) (O.taken output.old) (O.taken output.new) result }
+        (I.told input.old) (I.told input.new) (O.taken output.old) (O.taken output.new) result }
     // The bytes that the input gave, with all that it may have left, and the words account for the status and for what
     // the output took. Where a read failed, that is the whole text of what the input gave.
     ensures told { AccountsFor (map string_bytes words.now.items)
-        (I.left input.old) (I.left input.new) (O.taken output.old) (O.taken output.new) result }
+        (I.told input.old) (I.told input.new) (O.taken output.old) (O.taken output.new) result }
     // `run`, `trace`, `check`, `exec`, `apply` and `convolve` without `--code` have read their input to its end where
     // they succeed.
     ensures end { result ≡ Status.Success
-        → AskForRest (map string_bytes words.now.items) → IsOver (I.left input.new) }
+        → AskForRest (map string_bytes words.now.items) → (I.told input.new).ended ≡ true }
 
     // A fault has its cause and is not swallowed, also where nothing is told.
     ensures read { Reports (I.faults input.old) (I.faults input.new) (result ≡ Status.ReadFault) }

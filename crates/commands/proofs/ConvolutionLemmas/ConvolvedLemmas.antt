@@ -7,7 +7,7 @@ use Rattle.std.proofs.lemmas.List.{length-drop}
 use Rattle.std.specs.List.{All}
 use Rattle.std.specs.declared.option.Option.{Option}
 use Rattle.std.specs.Io.KnownBytes.{Appends}
-use Rattle.io_edge.specs.Told.{IsOver}
+use Rattle.io_edge.specs.Told.{Coming, IsOver}
 use Rattle.matrix_meaning.specs.Convolution.{convolution}
 use Rattle.generate.specs.ConvPlanned.{IsConvPlanned}
 use Rattle.generate_faults.specs.declared.conv_fault.ConvFault.{ConvFault}
@@ -95,22 +95,23 @@ pub record WantsList (wants : Wants) (size : ℕ) : Type 0 where
 
 module _ (wants : Wants) (size modulus : ℕ) (list : WantsList wants size)
     (IsText : List ℕ → List (List ℕ) → List ℕ → Type 0) where
-  lacks : (old new : Fed) (read left : List ℕ) (out : Option (List ℕ)) (result : Result (Unit {0}) StreamFault)
+  lacks : (old new : Fed) (read left : List ℕ) (ended : Bool) (out : Option (List ℕ))
+      (result : Result (Unit {0}) StreamFault)
       → (lacking size result ≢ stream.TooLong → new.taken ≤ limit) → result ≢ Err stream.WriteFault
       → Reads size modulus old new read (left ≡ []) [] result
       → Answers size modulus (limit - old.taken) (read ++ left) [] result
-      → Meets (mapping wants size modulus (by_first IsText) (limit - old.taken)) (read ++ left) left out out
+      → Meets (mapping wants size modulus (by_first IsText) (limit - old.taken)) (read ++ left) left ended out out
       (status_of_fault (lacking size result))
-  lacks old new read left out (Ok u) ends other s seen =
-      run_answers wants (by_first IsText) size modulus old new read left [] [] [] (λ x. []) refl out out out
+  lacks old new read left ended out (Ok u) ends other s seen =
+      run_answers wants (by_first IsText) size modulus old new read left ended [] [] [] (λ x. []) refl out out out
       (Appends-nil out) (Ok u) (status_of_fault (lacking size (Ok u))) (list.lacks (Ok u)) seen (Appends-nil out)
       (λ e. cc) (λ e. cc)
-  lacks old new read left out (Err fault) ends other s seen =
-      run_meets wants (by_first IsText) size modulus old new read left [] [] [] (λ x. []) refl out out out
+  lacks old new read left ended out (Err fault) ends other s seen =
+      run_meets wants (by_first IsText) size modulus old new read left ended [] [] [] (λ x. []) refl out out out
       (Appends-nil out) (Err fault) (list.lacks (Err fault)) list.on s seen (nothing_written out (λ x. []) fault other)
       (λ short. ends (λ e. short (ap failed e))) (λ ahead last e. absurd (none_last ahead last e))
 
-  pub list_lacking : (old new : Fed) (before after out : Option (List ℕ)) (fault : StreamFault)
+  pub list_lacking : (old new : Fed) (before after : Coming) (out : Option (List ℕ)) (fault : StreamFault)
       → old.taken ≤ limit → (fault ≢ stream.TooLong → new.taken ≤ limit) →
       HasNoVector size modulus old new before after fault
       → SourceMeets (mapping wants size modulus (by_first IsText) (limit - old.taken)) before after out out
@@ -126,12 +127,13 @@ module _ (wants : Wants) (size modulus : ℕ) (list : WantsList wants size)
             (λ other. short (lacking_long size result other));
         meets = λ rest tells.
             let goes : IsOver after → rest ≡ [] = over_left after rest tells in
-            rw none.3 (lacks old new r.read rest out result short none.1
+            rw none.3 (lacks old new r.read rest after.told.ended out result short none.1
             (reads_more size modulus old new r.read (IsOver after) (rest ≡ []) [] result goes r.answer)
             (r.answers start rest goes));
       }
 
-list_told : (code : Bool) (plan : Planned) (old new : Fed) (before after out : Option (List ℕ)) (fault : StreamFault)
+list_told : (code : Bool) (plan : Planned) (old new : Fed) (before after : Coming) (out : Option (List ℕ))
+    (fault : StreamFault)
     → old.taken ≤ limit → (fault ≢ stream.TooLong → new.taken ≤ limit) →
     HasNoVector plan.request.size plan.request.modulus old new before after fault
     → SourceMeets (list_work code plan (limit - old.taken)) before after out out (status_of_fault fault)
@@ -145,7 +147,7 @@ list_few false plan room = all_few room
 list_few true plan room = all_few room
 
 pub convolves_lacking : (code : Bool) (plan : Planned) (request : Request) (old new : Fed)
-    (before after out : Option (List ℕ)) (fault : StreamFault)
+    (before after : Coming) (out : Option (List ℕ)) (fault : StreamFault)
     → conv_chosen request (Ok plan) → old.taken ≤ limit → (fault ≢ stream.TooLong → new.taken ≤ limit)
     → HasNoVector plan.request.size plan.request.modulus old new before after fault
     → SourceMeets (work_by_list code request (limit - old.taken)) before after out out (status_of_fault fault)
@@ -156,7 +158,8 @@ convolves_lacking code plan request old new before after out fault chosen start 
 -- The listing
 
 -- all of it is written
-pub convolves_listing : (request : Request) (cut : Cut) (old new : Fed) (before after out out' : Option (List ℕ))
+pub convolves_listing : (request : Request) (cut : Cut) (old new : Fed) (before after : Coming)
+    (out out' : Option (List ℕ))
     (h listing : List ℕ) (program : Program)
     → cut.size ≡ request.size → HasCome request.modulus cut old new before after (h ∷ []) → old.taken ≤ limit
     → new.taken ≤ limit → (cut.ended ≡ true → IsOver after)
@@ -176,7 +179,7 @@ convolves_listing request cut old new before after out out' h listing program si
           (λ e. over_left after rest tells (end e)) in
           let seen : data_vectors request.size request.modulus room bytes ≡ h ∷ first.0 =
           ap (λ n. data_vectors n request.modulus room bytes) (sym size) ∙ first.1 in
-          answered_meets (convolver_work plan room) bytes rest out out' Success
+          answered_meets (convolver_work plan room) bytes rest after.told.ended out out' Success
           (λ d. (
             listing,
             (
@@ -188,7 +191,7 @@ convolves_listing request cut old new before after out out' h listing program si
     })
 
 -- a front of it is written
-pub convolves_cut : (request : Request) (cut : Cut) (old new : Fed) (before after out out' : Option (List ℕ))
+pub convolves_cut : (request : Request) (cut : Cut) (old new : Fed) (before after : Coming) (out out' : Option (List ℕ))
     (h listing : List ℕ) (program : Program)
     → cut.size ≡ request.size → 0 < request.size → HasCome request.modulus cut old new before after (h ∷ [])
     → new.taken ≤ limit → (cut.ended ≡ true → IsOver after)
@@ -212,7 +215,7 @@ convolves_cut request cut old new before after out out' h listing program size s
           (Err stream.WriteFault) goes r.answer in
           let all : HasAllButLast (IsConvolverText plan) (h ∷ []) wrote.front =
           record { ahead = []; last = h; whole = refl; text = []; right = refl; rest = wrote.front; begins = refl } in
-          cut_meets (convolver_work plan room) r.read rest listing out out' wrote (
+          cut_meets (convolver_work plan room) r.read rest after.told.ended listing out out' wrote (
             fine_by old.taken new.taken r.read s.0 within s.1,
             s.2,
             subst (λ vectors. IsConvolverText plan vectors listing) (sym seen) (same ∙ ap listing_of made.letters),
@@ -253,7 +256,8 @@ convolved_lines request h program code turns later made same some there whole =
     later_lines request.size request.modulus f g each some (length whole.0 / request.size) whole.0 h later (div-mul-le_self (length whole.0) request.size) whole.1
 
 run_told : {S : Type 0} (schedule : Plan) (request : Request) (code : Code) (old new : Fed)
-    (before after out out' : Option (List ℕ)) (h : List ℕ) (program : Program) (leaves : List ℕ → S) (first last : S)
+    (before after : Coming) (out out' : Option (List ℕ)) (h : List ℕ) (program : Program) (leaves : List ℕ → S)
+    (first last : S)
     (result : Result (Unit {0}) StreamFault)
     → (made : IsListProgram request h program) → code ≡ code_of program → request.procs ≡ 1 → 0 < request.modulus →
     HasNoStranger schedule 1 → old.taken ≤ limit → (result ≢ Err stream.TooLong → new.taken ≤ limit)
@@ -277,7 +281,8 @@ run_told schedule request code old new before after out out' h program leaves fi
       meets = λ rest tells.
           let goes : IsOver after → rest ≡ [] = over_left after rest tells in
           run_meets a_first (IsConvolveText (with_tree request made.tree)) request.size request.modulus old new r.read rest
-          (h ∷ []) s.later [] (λ x. line_of (results code x turns)) told out out out' (Appends-nil out) result refl tt
+          after.told.ended (h ∷ []) s.later [] (λ x. line_of (results code x turns)) told out out out'
+          (Appends-nil out) result refl tt
           (reads_more request.size request.modulus old new r.read (IsOver after) (rest ≡ []) (h ∷ s.later) result
           goes r.answer)
           (r.answers start rest goes) s.wrote ends
@@ -288,7 +293,7 @@ run_told schedule request code old new before after out out' h program leaves fi
     }
 
 -- the list has come, by what the machine's code says of the modulus
-pub list_come : (request : Request) (code : Code) (cut : Cut) (old now : Fed) (before mid : Option (List ℕ))
+pub list_come : (request : Request) (code : Code) (cut : Cut) (old now : Fed) (before mid : Coming)
     (h : List ℕ) (program : Program)
     → IsListProgram request h program → code ≡ code_of program →
     HasCome request.modulus cut old now before mid (h ∷ []) → HasCome code.modulus cut old now before mid (h ∷ [])
@@ -297,7 +302,7 @@ list_come request code cut old now before mid h program made same come =
 
 -- the machine runs after the list
 pub convolves_run : {S : Type 0} (schedule : Plan) (request : Request) (code : Code) (cut : Cut) (old now new : Fed)
-    (before mid after out out' : Option (List ℕ)) (h : List ℕ) (program : Program) (leaves : List ℕ → S)
+    (before mid after : Coming) (out out' : Option (List ℕ)) (h : List ℕ) (program : Program) (leaves : List ℕ → S)
     (first last : S)
     (result : Result (Unit {0}) StreamFault)
     → IsListProgram request h program → code ≡ code_of program → cut.size ≡ request.size → request.procs ≡ 1 →

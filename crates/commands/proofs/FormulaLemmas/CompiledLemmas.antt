@@ -2,12 +2,12 @@
 use Rattle.std.proofs.Common.{◌≡◌, ◌<◌, ◌≤◌, ◌+◌, ◌-◌, ◌/◌, ℕ, false, List, [], ◌++◌, None, Some, Ok, Err, Vec, length}
 use Rattle.std.proofs.Common.{refl, sym, ap, subst, ◌∙◌, arith, inr}
 use Rattle.std.proofs.Common.{Global}
-use Rattle.std.proofs.KnownBytes.{Consumes-kept}
+use Rattle.io_edge.proofs.ToldLemmas.{Consumes-kept}
 use Rattle.std.proofs.Math.Nat.{div-mul-le_self}
 use Rattle.std.specs.List.{All, list_any}
 use Rattle.std.specs.declared.option.Option.{Option}
-use Rattle.std.specs.Io.KnownBytes.{Appends, Consumes}
-use Rattle.io_edge.specs.Told.{IsOver}
+use Rattle.std.specs.Io.KnownBytes.{Appends}
+use Rattle.io_edge.specs.Told.{Coming, Consumes, IsOver}
 use Rattle.icode.specs.Actions.{plain_code}
 use Rattle.icode.specs.Machine.{results}
 use Rattle.icode.specs.Plain.{PlainProgram}
@@ -55,7 +55,7 @@ use Rattle.commands.proofs.StreamLemmas.{mapping_within}
 -- The line
 
 -- a fault after a part of the line
-pub text_failed : (text : List ℕ) (start before after : Option (List ℕ)) (old new : Fed) (fault : FeedFault)
+pub text_failed : (text : List ℕ) (start before after : Coming) (old new : Fed) (fault : FeedFault)
     → Consumes start before text → old.taken ≡ length text → length text ≤ 65536 → list_any is_line_end text ≡ false
     → Feeds old new before after (Err fault)
     → (read : List ℕ) × Consumes start after read × GivesText read (IsOver after) new.taken (Err (rest_fault fault))
@@ -81,7 +81,7 @@ module _ (orders : List ℕ → Stage Formula) (work : Formula → Work) where
   by_line = by_front (line 65536) orders work
 
   -- the line is not read
-  pub line_unread : (before after out : Option (List ℕ)) (taken : ℕ) (read : List ℕ) (fault : RestFault)
+  pub line_unread : (before after : Coming) (out : Option (List ℕ)) (taken : ℕ) (read : List ℕ) (fault : RestFault)
       → Consumes before after read → GivesText read (IsOver after) taken (Err fault)
       → SourceMeets by_line before after out out (status_of_text fault)
   line_unread before after out taken read rest_fault.TooLong consumed given =
@@ -98,7 +98,7 @@ module _ (orders : List ℕ → Stage Formula) (work : Formula → Work) where
 -- The listing
 
 -- it is written
-pub compile_told : (m : ℕ) (before after out out' : Option (List ℕ)) (taken : ℕ) (read text listing : List ℕ)
+pub compile_told : (m : ℕ) (before after : Coming) (out out' : Option (List ℕ)) (taken : ℕ) (read text listing : List ℕ)
     → Consumes before after read → length read ≤ limit → taken ≡ length read
     → IsWhole (line 65536) read (IsOver after) text → length text ≤ 65536
     → IsCompiledText m text listing → Appends out out' listing
@@ -108,10 +108,11 @@ compile_told m before after out out' taken read text listing consumed few count 
     text_told (line 65536) written (compile_work m) (line_is_front 65536) before after after out out' taken read text
     made.0 Success consumed few count whole short made.1 (none_few (limit - taken))
     (unread_meets work after out out' Success (λ bytes.
-    answered_meets work bytes bytes out out' Success (λ d. (listing, (refl, made.2), wrote)) (λ e. cc) (λ e. cc)))
+    answered_meets work bytes bytes after.told.ended out out' Success (λ d. (listing, (refl, made.2), wrote))
+    (λ e. cc) (λ e. cc)))
 
 -- a front of it is written
-pub compile_cut : (m : ℕ) (before after out out' : Option (List ℕ)) (taken : ℕ) (read text listing : List ℕ)
+pub compile_cut : (m : ℕ) (before after : Coming) (out out' : Option (List ℕ)) (taken : ℕ) (read text listing : List ℕ)
     → Consumes before after read → length read ≤ limit → taken ≡ length read
     → IsWhole (line 65536) read (IsOver after) text → length text ≤ 65536
     → IsCompiledText m text listing → AppendsPrefix out out' listing
@@ -121,7 +122,7 @@ compile_cut m before after out out' taken read text listing consumed few count w
     text_told (line 65536) written (compile_work m) (line_is_front 65536) before after after out out' taken read text
     made.0 WriteFault consumed few count whole short made.1 (none_few (limit - taken))
     (unread_meets work after out out' WriteFault (λ bytes.
-    cut_meets work [] bytes listing out out' wrote (refl, made.2)))
+    cut_meets work [] bytes after.told.ended listing out out' wrote (refl, made.2)))
 
 -- The formula's matrix times the vectors
 
@@ -138,7 +139,7 @@ formula_lines m formula own turns is there ts =
     lines_equal (size_of formula) m f (formulas.apply m formula) same some (length ts / size_of formula) ts (div-mul-le_self (length ts) (size_of formula))
 
 pub apply_told : (m : ℕ) (schedule : Plan) (program : Program) (front : Vec ℕ Global)
-    (before mid left out out' : Option (List ℕ)) (taken : ℕ) (read text : List ℕ) (status : Status)
+    (before mid left : Coming) (out out' : Option (List ℕ)) (taken : ℕ) (read text : List ℕ) (status : Status)
     → Consumes before mid read → length read ≤ limit → taken ≡ length read
     → IsWhole (line 65536) read (IsOver mid) text → length text ≤ 65536
     → IsFormedProgram m (named schedule) text program → HasNoStranger schedule program.procs → front.items ≡ []

@@ -1,10 +1,8 @@
 -- From the first line to a request.
 use Rattle.std.proofs.Common.{◌≡◌, ◌≢◌, ◌≤◌, ℕ, List, take, None, Some, Ok, Err, length, length-take, sym, ap}
 use Rattle.std.proofs.Common.{arith, inl, inr}
-use Rattle.std.specs.declared.option.Option.{Option}
-use Rattle.std.specs.Io.KnownBytes.{Consumes}
+use Rattle.io_edge.specs.Told.{Coming, Consumes, IsOver}
 use Rattle.io_edge.specs.Feed.{limit}
-use Rattle.io_edge.specs.Told.{IsOver}
 use Rattle.matrix_meaning.specs.declared.Request.{Request}
 use Rattle.request_text.specs.declared.RequestFault.{RequestFault}
 use Rattle.request_text.specs.declared.RequestFault.TheVariants as request
@@ -24,7 +22,7 @@ use Rattle.commands.specs.Equations.Orders.{turned}
 use Rattle.commands.proofs.Inputs.FrontLemmas.{asks_read_fault, asks_too_long, asks_refused, asks_value}
 
 -- the first line can't be read
-pub asked_line_fault : {A : Type 0} (orders : List ℕ → Stage A) (before after : Option (List ℕ)) (taken : ℕ)
+pub asked_line_fault : {A : Type 0} (orders : List ℕ → Stage A) (before after : Coming) (taken : ℕ)
     (read buffer : List ℕ) (ended : Type 0) (fault : FeedFault)
     → Consumes before after read → GivesLine read ended taken buffer (Err fault) →
     Asks (line 256) orders before after taken (Err (status_of_line fault))
@@ -48,7 +46,7 @@ request_fault_other (request.Syntax at) = λ e. cc
 request_fault_other fault = λ e. cc
 
 -- the line spells no request that can be served
-pub asked_request_fault : (spells : List ℕ → Stage Request) (names : List ℕ) (before after : Option (List ℕ))
+pub asked_request_fault : (spells : List ℕ → Stage Request) (names : List ℕ) (before after : Coming)
     (taken : ℕ) (read buffer : List ℕ) (count : ℕ) (fault : RequestFault)
     → Consumes before after read → GivesLine read (IsOver after) taken buffer (Ok count)
     → spells (take count buffer) (Err (status_of_request fault))
@@ -59,7 +57,7 @@ asked_request_fault spells names before after taken read buffer count fault cons
     (status_of_request fault) consumed whole.2 whole.0 whole.1 (λ _. inl answer) (request_fault_other fault)
 
 -- a turn is of a processor that is not there
-pub asked_turn_fault : (spells : List ℕ → Stage Request) (names : List ℕ) (before after : Option (List ℕ)) (taken : ℕ)
+pub asked_turn_fault : (spells : List ℕ → Stage Request) (names : List ℕ) (before after : Coming) (taken : ℕ)
     (read buffer : List ℕ) (count : ℕ) (wanted : Request) (q : ℕ)
     → Consumes before after read → GivesLine read (IsOver after) taken buffer (Ok count)
     → spells (take count buffer) (Ok wanted) → first_stranger names wanted.procs ≡ Some q
@@ -71,7 +69,7 @@ asked_turn_fault spells names before after taken read buffer count wanted q cons
     (λ _. inr (record { value = wanted; before = answer; behind = sym (ap (λ o. admitted o wanted.procs wanted) found) })) (λ e. cc)
 
 -- the request
-pub asked_request : (spells : List ℕ → Stage Request) (names : List ℕ) (before after : Option (List ℕ)) (taken : ℕ)
+pub asked_request : (spells : List ℕ → Stage Request) (names : List ℕ) (before after : Coming) (taken : ℕ)
     (read buffer : List ℕ) (count : ℕ) (wanted : Request)
     → Consumes before after read → GivesLine read (IsOver after) taken buffer (Ok count)
     → spells (take count buffer) (Ok wanted) → first_stranger names wanted.procs ≡ None

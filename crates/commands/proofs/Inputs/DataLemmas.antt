@@ -1,6 +1,6 @@
 -- What a run over data answers, reads and writes, by the texts of its vectors.
 use Rattle.std.proofs.Common.{◌≡◌, ◌≢◌, ◌≤◌, ◌+◌, ◌-◌, ℕ, true, List, [], ◌∷◌, ◌++◌, Ok, Err, Result, refl, sym, ap}
-use Rattle.std.proofs.Common.{subst, ◌<◌, ◌*◌, zero, suc, length, take, drop, ap₂, ◌∙◌, arith, append_assoc, inl, inr}
+use Rattle.std.proofs.Common.{Bool, subst, ◌<◌, ◌*◌, zero, suc, length, take, drop, ap₂, ◌∙◌, arith, append_assoc, inl, inr}
 use Rattle.std.proofs.Common.{length-append}
 use Rattle.std.proofs.KnownBytes.{Appends-trans}
 use Rattle.std.specs.List.{list_all, All}
@@ -9,7 +9,7 @@ use Rattle.std.specs.Io.KnownBytes.{Appends}
 use Rattle.std.proofs.lemmas.List.Elements.{All-from_get_or}
 use Rattle.std.proofs.lemmas.List.{length-take-le, length-drop, length-map}
 use Rattle.io_edge.specs.Feed.{Fed, limit}
-use Rattle.io_edge.specs.Told.{IsOver}
+use Rattle.io_edge.specs.Told.{Coming, IsOver}
 use Rattle.data_stream.specs.Data.{tokens, closed_part, is_good}
 use Rattle.data_stream.specs.Line.{line_of}
 use Rattle.data_stream.specs.Reading.{GoesOver, residues}
@@ -74,7 +74,7 @@ fine_by old new read count within good = record { few = omega (arith, count, wit
 
 -- What a run comes to that writes a front and then the texts of the later vectors, with the bytes that are left
 module _ (wants : Wants) (IsText : List (List ℕ) → List ℕ → Type 0) (size modulus : ℕ) (old new : Fed)
-    (read left : List ℕ) (first later : List (List ℕ)) (front : List ℕ) (text : List ℕ → List ℕ)
+    (read left : List ℕ) (ended : Bool) (first later : List (List ℕ)) (front : List ℕ) (text : List ℕ → List ℕ)
     (told : IsText (first ++ later) (front ++ texts text later))
     (start out out' : Option (List ℕ)) (begun : Appends start out front) where
   abbrev work : Outcomes
@@ -89,8 +89,8 @@ module _ (wants : Wants) (IsText : List (List ℕ) → List ℕ → Type 0) (siz
       → (data_answer size (limit - old.taken) (read ++ left) ≡ result)
       × (data_vectors size modulus (limit - old.taken) (read ++ left) ≡ vectors)
       → Appends out out' (texts text later) → status ≢ ReadFault → status ≢ WriteFault
-      → Meets work (read ++ left) left start out' status
-  run_answers result status is seen wrote = answered_meets work (read ++ left) left start out' status (λ d. (
+      → Meets work (read ++ left) left ended start out' status
+  run_answers result status is seen wrote = answered_meets work (read ++ left) left ended start out' status (λ d. (
     front ++ texts text later,
     (
       sym (ap₂ (status_by wants size) seen.0 seen.1 ∙ is),
@@ -107,7 +107,7 @@ module _ (wants : Wants) (IsText : List (List ℕ) → List ℕ → Type 0) (siz
   -- the output failed at the text of the last vector
   run_stops : IsToldAhead → (f : FailsAtLast text later out out') →
       Reads size modulus old new read (left ≡ []) vectors (Err stream.WriteFault) → new.taken ≤ limit
-      → Meets work (read ++ left) left start out' WriteFault
+      → Meets work (read ++ left) left ended start out' WriteFault
   run_stops ahead f s ends =
       let took = cut_behind text later front start out out' begun f in
       let whole : vectors ≡ (first ++ f.ahead) ++ f.last ∷ [] =
@@ -121,7 +121,7 @@ module _ (wants : Wants) (IsText : List (List ℕ) → List ℕ → Type 0) (siz
         rest = f.cut.front;
         begins = took.1;
       } in
-      cut_meets work read left (front ++ texts text later) start out' took.0 (
+      cut_meets work read left ended (front ++ texts text later) start out' took.0 (
         fine_by old.taken new.taken read s.0 ends s.1,
         s.2,
         subst (λ (v : List (List ℕ)). IsText v (front ++ texts text later)) (sym s.4) told,
@@ -134,25 +134,26 @@ module _ (wants : Wants) (IsText : List (List ℕ) → List ℕ → Type 0) (siz
       → Reads size modulus old new read (left ≡ []) vectors result
       → Answers size modulus (limit - old.taken) (read ++ left) vectors result
       → Writes out out' result text later → (result ≢ Err stream.TooLong → new.taken ≤ limit) → IsToldAhead
-      → Meets work (read ++ left) left start out' (status_of_stream result)
-  run_meets (Err stream.ReadFault) is on s seen wrote ends ahead = broken_meets work (read ++ left) left start out' (
-    read,
-    front ++ texts text later,
-    refl,
-    (
-      fine_by old.taken new.taken read s.0 (ends (λ e. cc)) s.1,
-      subst (ReadsOn wants) (sym s.2) on,
-      subst (λ (v : List (List ℕ)). IsText v (front ++ texts text later)) (sym s.2) told,
-    ),
-    Appends-trans start out out' front (texts text later) begun wrote,
-  )
+      → Meets work (read ++ left) left ended start out' (status_of_stream result)
+  run_meets (Err stream.ReadFault) is on s seen wrote ends ahead =
+      broken_meets work (read ++ left) left ended start out' (
+        read,
+        front ++ texts text later,
+        refl,
+        (
+          fine_by old.taken new.taken read s.0 (ends (λ e. cc)) s.1,
+          subst (ReadsOn wants) (sym s.2) on,
+          subst (λ (v : List (List ℕ)). IsText v (front ++ texts text later)) (sym s.2) told,
+        ),
+        Appends-trans start out out' front (texts text later) begun wrote,
+      )
   run_meets (Err stream.WriteFault) is on s seen wrote ends ahead = run_stops ahead wrote s (ends (λ e. cc))
   run_meets result is on s seen wrote ends ahead =
       run_answers result (status_of_stream result) is seen wrote (λ e. cc) (λ e. cc)
 
 -- after the front, the texts of whole vectors are texts of them
 pub streams_told : {S : Type 0} (IsText : List (List ℕ) → List ℕ → Type 0) (size modulus : ℕ) (front : List ℕ)
-    (text : List ℕ → List ℕ) (leaves : List ℕ → S) (old new : Fed) (before after start out out' : Option (List ℕ))
+    (text : List ℕ → List ℕ) (leaves : List ℕ → S) (old new : Fed) (before after : Coming) (start out out' : Option (List ℕ))
     (first last : S)
     (result : Result (Unit {0}) StreamFault)
     → ((ts : List (List ℕ)) → IsText (vectors_of size modulus ts) (front ++ texts text (vectors_of size modulus ts))) →
@@ -168,7 +169,8 @@ streams_told IsText size modulus front text leaves old new before after start ou
       let goes : IsOver after → rest ≡ [] = over_left after rest tells in
       let made = reads_vectors size modulus old new s.read (IsOver after) s.vectors result s.answer in
       let Tells : List (List ℕ) → Type 0 = λ v. IsText v (front ++ texts text v) in
-      run_meets all IsText size modulus old new s.read rest [] s.vectors front text (subst Tells made.1 (writes made.0))
+      run_meets all IsText size modulus old new s.read rest after.told.ended [] s.vectors front text
+      (subst Tells made.1 (writes made.0))
       start out out' begun result refl tt
       (reads_more size modulus old new s.read (IsOver after) (rest ≡ []) s.vectors result goes s.answer)
       (s.answers within rest goes) s.wrote ends

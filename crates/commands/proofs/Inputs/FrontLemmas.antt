@@ -1,11 +1,12 @@
 -- From what comes after a front to the whole input.
-use Rattle.std.proofs.Common.{◌≡◌, ◌≢◌, ◌<◌, ◌≤◌, ◌+◌, ◌-◌, ℕ, true, false, List, [], ◌++◌, Ok, Err, Result, nat_le}
+use Rattle.std.proofs.Common.{◌≡◌, ◌≢◌, ◌<◌, ◌≤◌, ◌+◌, ◌-◌, ◌⊎◌, Bool, ℕ, true, false, List, [], ◌∷◌, ◌++◌, Ok, Err}
+use Rattle.std.proofs.Common.{Result, nat_le}
 use Rattle.std.proofs.Common.{length, cond, refl, sym, ap, subst, ◌∙◌, arith, append_assoc, length-append, inl, inr}
 use Rattle.std.proofs.lemmas.Grind.{common_steps}
-use Rattle.std.proofs.KnownBytes.{Appends-nil, Consumes-trans}
+use Rattle.std.proofs.KnownBytes.{Appends-nil}
+use Rattle.io_edge.proofs.ToldLemmas.{Consumes-trans, over_left, over_rest}
 use Rattle.std.specs.declared.option.Option.{Option}
-use Rattle.std.specs.Io.KnownBytes.{Consumes}
-use Rattle.io_edge.specs.Told.{IsOver}
+use Rattle.io_edge.specs.Told.{Coming, Consumes, IsOver}
 use Rattle.io_edge.specs.Feed.{limit}
 use Rattle.spiral_words.specs.Statuses.Status.{IsDefined}
 use Rattle.spiral_words.specs.declared.statuses.status.Status.{Status}
@@ -17,7 +18,6 @@ use Rattle.commands.specs.Input.Refusals.{IsRefusal}
 use Rattle.commands.specs.Input.Stage.{Stage, HasGiven}
 use Rattle.commands.specs.Equations.Front.{Front, MayGoOn, HasEnded, Work, taken_from, room_behind, ordered, by_front}
 use Rattle.commands.proofs.Inputs.InputLemmas.{none_cut}
-use Rattle.io_edge.proofs.ToldLemmas.{over_left, over_rest}
 
 -- What holds of each front
 
@@ -32,6 +32,25 @@ still_ended : (front : Front) → IsFront front → (read more : List ℕ) (now 
     (now → later) → HasEnded front (read ++ more) later
 still_ended front is read more now later (inl there) goes = inl (is.kept read more there)
 still_ended front is read more now later (inr e) goes = inr (goes e)
+
+-- whether the input is over is known
+over_or_not : (held : List ℕ) (ended : Bool) →
+    ((held ≡ []) × (ended ≡ true)) ⊎ ((held ≡ []) × (ended ≡ true) → ⊥)
+over_or_not [] true = inl (refl, refl)
+over_or_not [] false = inr (λ over. let wrong = over.1 in cc)
+over_or_not (byte ∷ held) ended = inr (λ over. let wrong = over.0 in cc)
+
+stands_alone : (front : Front) (read : List ℕ) (byte : ℕ) (over : Type 0) → HasEnded front read (byte ∷ [] ≡ []) →
+    HasEnded front read over
+stands_alone front read byte over (inl there) = inl there
+stands_alone front read byte over (inr wrong) = absurd (cc)
+
+-- one behind which everything is known has ended by its own end, or the input is over
+stands_by : (front : Front) → IsFront front → (read : List ℕ) (over : Type 0) → over ⊎ (over → ⊥) →
+    ((more : List ℕ) → (over → more ≡ []) → front.behind (read ++ more) ≡ more) → HasEnded front read over
+stands_by front is read over (inl there) behind = inr there
+stands_by front is read over (inr never) behind = stands_alone front read 0 over
+    (is.there read (0 ∷ []) (λ more none. behind more (λ there. absurd (never there))))
 
 -- as many bytes may come after it as the limit leaves after what was taken for it
 room_after : (front : Front) (read more : List ℕ) (taken : ℕ) → taken ≡ length read →
@@ -60,11 +79,12 @@ front_long front bytes long =
 -- what the work comes to after the front is right for the whole input
 front_meets : {A : Type 0} (front : Front) → IsFront front →
     (orders : List ℕ → Stage A) (work : A → Work) (bytes read rest : List ℕ) (taken : ℕ) (value : A)
-    (left : List ℕ) (out out' : Option (List ℕ)) (status : Status)
+    (left : List ℕ) (was : Type 0) (ended : Bool) (out out' : Option (List ℕ)) (status : Status)
     → bytes ≡ read ++ rest → AsksBy front orders read (rest ≡ []) taken (Ok value)
-    → Meets (work value (limit - taken)) rest left out out' status
-    → Meets (by_front front orders work) bytes left out out' status
-front_meets {A} front is orders work bytes read rest taken value left out out' status whole asked p =
+    → HasEnded front read was → (was → ended ≡ true)
+    → Meets (work value (limit - taken)) rest left ended out out' status
+    → Meets (by_front front orders work) bytes left ended out out' status
+front_meets {A} front is orders work bytes read rest taken value left was ended out out' status whole asked stands stays p =
     let here = asked.1 rest (λ e. e) in
     let ordered_here : ordered front orders bytes (Ok value) = subst (λ b. ordered front orders b (Ok value)) (sym whole) here.0 in
     let data_here : front.behind bytes ≡ rest = ap front.behind whole ∙ here.1 in
@@ -95,9 +115,14 @@ front_meets {A} front is orders work bytes read rest taken value left out out' s
             whole ∙ ap (λ l. read ++ l) found.2 ∙ sym (append_assoc read found.0 left),
             inr (
               value,
-              has found.0 (left ≡ []) none (λ end. (none_cut rest found.0 left found.2 end).1),
-              subst (λ n. (work value n).broken (front.behind (read ++ found.0)) (left ≡ []) found.1) (room_after front read found.0 taken asked.0 (asked.1 found.0 none).1)
-                  (subst (λ b. (work value (limit - taken)).broken b (left ≡ []) found.1) (sym (asked.1 found.0 none).1) found.3),
+              record {
+                front = still_ended front is read found.0 was (ended ≡ true) stands stays;
+                gives = (asked.1 found.0 none).0;
+              },
+              subst (λ n. (work value n).broken (front.behind (read ++ found.0)) (ended ≡ true) found.1)
+                  (room_after front read found.0 taken asked.0 (asked.1 found.0 none).1)
+                  (subst (λ b. (work value (limit - taken)).broken b (ended ≡ true) found.1)
+                  (sym (asked.1 found.0 none).1) found.3),
             ),
             found.4,
           );
@@ -120,7 +145,7 @@ front_meets {A} front is orders work bytes read rest taken value left out out' s
     }
 
 pub front_told : {A : Type 0} (front : Front) → IsFront front →
-    (orders : List ℕ → Stage A) (work : A → Work) (before mid left : Option (List ℕ)) (taken : ℕ) (value : A)
+    (orders : List ℕ → Stage A) (work : A → Work) (before mid left : Coming) (taken : ℕ) (value : A)
     (out out' : Option (List ℕ)) (status : Status)
     → Asks front orders before mid taken (Ok value) → (work value (limit - taken)).most ≤ limit - taken + 1
     → SourceMeets (work value (limit - taken)) mid left out out' status
@@ -137,14 +162,17 @@ front_told front is orders work before mid left taken value out out' status a mo
       let behind : List ℕ = p.read ++ rest in
       let asked : AsksBy front orders a.read (behind ≡ []) taken (Ok value) =
       (a.asks.0, λ more none. a.asks.1 more (λ over. none (over_rest mid left p.read rest p.consumed tells over))) in
-      front_meets front is orders work ((a.read ++ p.read) ++ rest) a.read behind taken value rest out out' status
-      (append_assoc a.read p.read rest) asked (p.meets rest tells);
+      front_meets front is orders work ((a.read ++ p.read) ++ rest) a.read behind taken value rest (IsOver mid)
+      left.told.ended out out' status (append_assoc a.read p.read rest) asked
+      (stands_by front is a.read (IsOver mid) (over_or_not mid.held mid.told.ended)
+      (λ more over. (a.asks.1 more over).1))
+      (λ over. p.consumed.ended over.1) (p.meets rest tells);
 }
 
 -- The front orders nothing
 
 pub front_refused : {A : Type 0} (front : Front) (orders : List ℕ → Stage A) (work : A → Work)
-    (before left out : Option (List ℕ)) (taken : ℕ) (status : Status)
+    (before left : Coming) (out : Option (List ℕ)) (taken : ℕ) (status : Status)
     → Asks front orders before left taken (Err status) → status ≢ WriteFault
     → SourceMeets (by_front front orders work) before left out out status
 front_refused front orders work before left out taken status a w = record {
@@ -161,7 +189,7 @@ front_refused front orders work before left out taken status a w = record {
 -- What a call for the front answers
 
 -- the front can't be read
-pub asks_read_fault : {A : Type 0} (front : Front) (orders : List ℕ → Stage A) (before after : Option (List ℕ))
+pub asks_read_fault : {A : Type 0} (front : Front) (orders : List ℕ → Stage A) (before after : Coming)
     (taken : ℕ) (read : List ℕ)
     → Consumes before after read → length read ≤ limit → MayGoOn front read
     → Asks front orders before after taken (Err ReadFault)
@@ -169,7 +197,7 @@ asks_read_fault front orders before after taken read consumed few part =
     record { read = read; consumed = consumed; few = few; asks = (λ d. absurd (d.read refl), λ _. part) }
 
 -- it is too long
-pub asks_too_long : {A : Type 0} (front : Front) (orders : List ℕ → Stage A) (before after : Option (List ℕ))
+pub asks_too_long : {A : Type 0} (front : Front) (orders : List ℕ → Stage A) (before after : Coming)
     (taken : ℕ) (read : List ℕ)
     → Consumes before after read → length read ≤ limit
     → ((more : List ℕ) → front.most < length (front.first (read ++ more)))
@@ -182,7 +210,7 @@ asks_too_long front orders before after taken read consumed few long = record {
 }
 
 -- its text orders nothing
-pub asks_refused : {A : Type 0} (front : Front) (orders : List ℕ → Stage A) (before after : Option (List ℕ)) (taken : ℕ)
+pub asks_refused : {A : Type 0} (front : Front) (orders : List ℕ → Stage A) (before after : Coming) (taken : ℕ)
     (read text : List ℕ) (status : Status)
     → Consumes before after read → length read ≤ limit → IsWhole front read (IsOver after) text
     → length text ≤ front.most → (IsDefined status → orders text (Err status)) → status ≢ ReadFault
@@ -200,7 +228,7 @@ asks_refused front orders before after taken read text status consumed few whole
 }
 
 -- its text orders a value
-pub asks_value : {A : Type 0} (front : Front) (orders : List ℕ → Stage A) (before after : Option (List ℕ)) (taken : ℕ)
+pub asks_value : {A : Type 0} (front : Front) (orders : List ℕ → Stage A) (before after : Coming) (taken : ℕ)
     (read text : List ℕ) (value : A)
     → Consumes before after read → length read ≤ limit → taken ≡ length read
     → IsWhole front read (IsOver after) text → length text ≤ front.most → orders text (Ok value)
@@ -221,7 +249,7 @@ asks_value front orders before after taken read text value consumed few count wh
 
 module _ {A : Type 0} (front : Front) (orders : List ℕ → Stage A) (work : A → Work) where
   -- its text orders nothing
-  pub text_refused : (before after out : Option (List ℕ)) (taken : ℕ) (read text : List ℕ) (status : Status)
+  pub text_refused : (before after : Coming) (out : Option (List ℕ)) (taken : ℕ) (read text : List ℕ) (status : Status)
       → Consumes before after read → length read ≤ limit → IsWhole front read (IsOver after) text
       → length text ≤ front.most → (IsDefined status → orders text (Err status)) → IsRefusal status
       → SourceMeets (by_front front orders work) before after out out status
@@ -231,7 +259,8 @@ module _ {A : Type 0} (front : Front) (orders : List ℕ → Stage A) (work : A 
       refusal.write
 
   -- its text orders a value, and after it this is right for the value's work
-  pub text_told : IsFront front → (before mid left out out' : Option (List ℕ)) (taken : ℕ) (read text : List ℕ)
+  pub text_told : IsFront front → (before mid left : Coming) (out out' : Option (List ℕ)) (taken : ℕ)
+      (read text : List ℕ)
       (value : A) (status : Status)
       → Consumes before mid read → length read ≤ limit → taken ≡ length read → IsWhole front read (IsOver mid) text
       → length text ≤ front.most → orders text (Ok value)

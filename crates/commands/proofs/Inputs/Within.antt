@@ -1,6 +1,7 @@
 -- What is right for one call is right for another.
-use Rattle.std.proofs.Common.{◌≡◌, ◌≤◌, ℕ, List, [], ◌++◌, Ok, Err, Result, arith, inl, inr}
+use Rattle.std.proofs.Common.{◌≡◌, ◌≤◌, Bool, true, ℕ, List, [], ◌++◌, Ok, Err, Result, arith, inl, inr}
 use Rattle.std.specs.declared.option.Option.{Option}
+use Rattle.io_edge.specs.Told.{Coming}
 use Rattle.spiral_words.specs.declared.statuses.status.Status.{Status}
 use Rattle.commands.specs.Input.Outcomes.{Outcomes, Meets, SourceMeets}
 use Rattle.commands.specs.Input.Stage.{Stage, given, ◌>>=◌}
@@ -17,21 +18,22 @@ pub record Within (a b : Outcomes) : Type 1 where
   pub broken : (read : List ℕ) (ended : Type 0) (t : List ℕ) → a.broken read ended t → b.broken read ended t
   pub cut : (read left t taken : List ℕ) → a.cut read left t taken → b.cut read left t taken
 
-pub meets_within : (a b : Outcomes) (bytes left : List ℕ) (before after : Option (List ℕ)) (s : Status) → Within a b
-    → Meets a bytes left before after s → Meets b bytes left before after s
-meets_within a b bytes left before after s w m = record {
+pub meets_within : (a b : Outcomes) (bytes left : List ℕ) (ended : Bool) (before after : Option (List ℕ))
+    (s : Status) → Within a b
+    → Meets a bytes left ended before after s → Meets b bytes left ended before after s
+meets_within a b bytes left ended before after s w m = record {
   answer = λ defined. let p = m.answer defined in (p.0, w.answer bytes s p.0 p.1, p.2);
-  read_fault = λ fault. let p = m.read_fault fault in (p.0, p.1, p.2, w.broken p.0 (left ≡ []) p.1 p.3, p.4);
+  read_fault = λ fault. let p = m.read_fault fault in (p.0, p.1, p.2, w.broken p.0 (ended ≡ true) p.1 p.3, p.4);
   write_fault = λ fault. let p = m.write_fault fault in (p.0, p.1, p.2, p.3, w.cut p.0 left p.1 p.3.front p.4);
 }
 
-pub told_within : (a b : Outcomes) (before left out out' : Option (List ℕ)) (s : Status) → Within a b
+pub told_within : (a b : Outcomes) (before left : Coming) (out out' : Option (List ℕ)) (s : Status) → Within a b
     → SourceMeets a before left out out' s → SourceMeets b before left out out' s
 told_within a b before left out out' s w m = record {
   read = m.read;
   consumed = m.consumed;
   few = omega (arith, m.few, w.most);
-  meets = λ rest tells. meets_within a b (m.read ++ rest) rest out out' s w (m.meets rest tells);
+  meets = λ rest tells. meets_within a b (m.read ++ rest) rest left.told.ended out out' s w (m.meets rest tells);
 }
 
 pub within_then : (a b c : Outcomes) → Within a b → Within b c → Within a c

@@ -2,8 +2,7 @@
 use Rattle.std.proofs.Common.{◌≡◌, ◌≤◌, ◌+◌, ◌-◌, ◌&&◌, ◌||◌, ℕ, Bool, true, false, List, [], ◌∷◌, ◌++◌, None}
 use Rattle.std.proofs.Common.{Some, Ok, Err, Vec, length, cond, refl, sym, ap, subst, ◌∙◌, arith, inl, inr}
 use Rattle.std.specs.declared.option.Option.{Option}
-use Rattle.std.specs.Io.KnownBytes.{Consumes}
-use Rattle.io_edge.specs.Told.{IsOver}
+use Rattle.io_edge.specs.Told.{Coming, Consumes, IsOver}
 use Rattle.std.proofs.Common.{Global}
 use Rattle.std.proofs.lemmas.Bool.{cases_Bool}
 use Rattle.icode.specs.Actions.{plain_code}
@@ -124,7 +123,8 @@ same_lines program turns passes (x ∷ vectors) =
 -- The call
 
 -- the listing is not read
-pub exec_unread : (schedule : Plan) (before after out : Option (List ℕ)) (taken : ℕ) (read : List ℕ) (fault : RestFault)
+pub exec_unread : (schedule : Plan) (before after : Coming) (out : Option (List ℕ)) (taken : ℕ) (read : List ℕ)
+    (fault : RestFault)
     → Consumes before after read → GivesPart 1048576 read (IsOver after) 0 taken (Err fault)
     → SourceMeets (exec_outcomes schedule) before after out out (status_of_part fault)
 exec_unread schedule before after out taken read rest_fault.TooLong consumed given =
@@ -141,7 +141,7 @@ exec_unread schedule before after out taken read rest_fault.NoMemory consumed gi
 
 -- its program runs
 pub exec_told : (schedule : Plan) (program : Program) (front : Vec ℕ Global)
-    (before mid left out out' : Option (List ℕ)) (taken : ℕ) (read text : List ℕ) (status : Status)
+    (before mid left : Coming) (out out' : Option (List ℕ)) (taken : ℕ) (read text : List ℕ) (status : Status)
     → Consumes before mid read → length read ≤ limit → taken ≡ length read → IsWholePart read (IsOver mid) text
     → length text ≤ 1048576
     → loaded schedule text (Ok (plain_program program)) → front.items ≡ []

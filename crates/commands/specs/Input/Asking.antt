@@ -1,9 +1,7 @@
 -- From the front of an input to what it orders.
 use Rattle.std.specs.Prelude.{◌≡◌, ◌≤◌, ℕ, List, [], ◌++◌, length, Ok, Err, Result}
-use Rattle.std.specs.declared.option.Option.{Option}
-use Rattle.std.specs.Io.KnownBytes.{Consumes}
+use Rattle.io_edge.specs.Told.{Coming, Consumes, IsOver}
 use Rattle.io_edge.specs.Feed.{limit}
-use Rattle.io_edge.specs.Told.{IsOver}
 use Rattle.matrix_meaning.specs.declared.Request.{Request}
 use Rattle.request_text.specs.declared.RequestFault.{RequestFault}
 use Rattle.request_text.specs.Answer.{Answers}
@@ -30,7 +28,7 @@ AsksBy front orders read ended taken (Err status) =
     × (status ≡ ReadFault → MayGoOn front read)
 
 -- the same by a source
-pub record Asks {A : Type 0} (front : Front) (orders : List ℕ → Stage A) (before after : Option (List ℕ)) (taken : ℕ)
+pub record Asks {A : Type 0} (front : Front) (orders : List ℕ → Stage A) (before after : Coming) (taken : ℕ)
     (result : Result A Status) : Type 0 where
   pub read : List ℕ
   pub consumed : Consumes before after read

@@ -55,7 +55,7 @@ pub(crate) fn compile<I: Source, O: Sink>(
 ) -> Result<(), Status>
     requires fresh { feed.old.taken ≡ 0 }
     ensures told { SourceMeets (compile_outcomes modulus.now)
-        (to_come feed.old (I.left input.old)) (to_come feed.new (I.left input.new))
+        (to_come feed.old (I.told input.old)) (to_come feed.new (I.told input.new))
         (O.taken output.old) (O.taken output.new) (status_of result) }
     ensures ends { EndsCleanly (status_of result) feed.new.held
         (I.faults input.old) (I.faults input.new) (O.faults output.old) (O.faults output.new)

@@ -1,7 +1,6 @@
 // The line of a formula, with which an input begins.
 ghost use Rattle.std.specs.Prelude.{◌≡◌, ℕ, ◌++◌, ◌∷◌, List, [], IsErrOf, OnOk};
-ghost use Rattle.std.specs.Io.KnownBytes.{Consumes};
-ghost use Rattle.io_edge.specs.Told.{IsOver};
+ghost use Rattle.io_edge.specs.Told.{Consumes, IsOver};
 ghost use Rattle.io_edge.specs.Faults.{Reports};
 ghost use Rattle.io_edge.specs.Feed.{to_come};
 ghost use Rattle.commands.specs.Input.Ends.{ReadsCleanly};
@@ -32,9 +31,9 @@ fn read_text<S: Source>(
 ) -> Result<Vec<u8>, RestFault>
     requires fresh { feed.old.taken ≡ 0 }
     ensures answer { (read : List ℕ)
-        × Consumes (to_come feed.old (S.left source.old))
-        (to_come feed.new (S.left source.new)) read
-        × GivesText read (IsOver (to_come feed.new (S.left source.new))) feed.new.taken result }
+        × Consumes (to_come feed.old (S.told source.old))
+        (to_come feed.new (S.told source.new)) read
+        × GivesText read (IsOver (to_come feed.new (S.told source.new))) feed.new.taken result }
     ensures empty { IsErrOf result RestFault.ReadFault → feed.new.held ≡ [] }
     ensures cause { Reports (S.faults source.old) (S.faults source.new)
         (IsErrOf result RestFault.ReadFault) }
@@ -60,8 +59,8 @@ pub(crate) fn formula_line<I: Source>(
 ) -> Result<Vec<u8>, Status>
     requires fresh { feed.old.taken ≡ 0 }
     ensures told { (read : List ℕ)
-        × Consumes (to_come feed.old (I.left input.old)) (to_come feed.new (I.left input.new)) read
-        × GivesFormula read (IsOver (to_come feed.new (I.left input.new))) feed.new.taken result }
+        × Consumes (to_come feed.old (I.told input.old)) (to_come feed.new (I.told input.new)) read
+        × GivesFormula read (IsOver (to_come feed.new (I.told input.new))) feed.new.taken result }
     ensures ends { ReadsCleanly result feed.new.held (I.faults input.old) (I.faults input.new) }
 {
     match read_text(alloc, feed, input) {

@@ -1,7 +1,6 @@
 // The first line of an input.
 ghost use Rattle.std.specs.Prelude.{◌≡◌, ℕ, List, [], length, IsErrOf};
-ghost use Rattle.std.specs.Io.KnownBytes.{Consumes};
-ghost use Rattle.io_edge.specs.Told.{IsOver};
+ghost use Rattle.io_edge.specs.Told.{Consumes, IsOver};
 ghost use Rattle.io_edge.specs.Faults.{Reports};
 ghost use Rattle.io_edge.specs.Feed.{to_come};
 ghost use Rattle.commands.specs.Input.Line.{GivesLine};
@@ -19,9 +18,9 @@ pub(crate) fn read_line<S: Source>(
     requires fresh { feed.old.taken ≡ 0 }
     requires room { length buffer.old ≡ 256 }
     ensures answer { (read : List ℕ)
-        × Consumes (to_come feed.old (S.left source.old))
-        (to_come feed.new (S.left source.new)) read
-        × GivesLine read (IsOver (to_come feed.new (S.left source.new))) feed.new.taken buffer.new
+        × Consumes (to_come feed.old (S.told source.old))
+        (to_come feed.new (S.told source.new)) read
+        × GivesLine read (IsOver (to_come feed.new (S.told source.new))) feed.new.taken buffer.new
         result }
     ensures empty { IsErrOf result FeedFault.ReadFault → feed.new.held ≡ [] }
     ensures cause { Reports (S.faults source.old) (S.faults source.new)

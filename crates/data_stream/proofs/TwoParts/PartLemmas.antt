@@ -1,10 +1,8 @@
 -- Where the first part of an input ends.
 use Rattle.std.proofs.Common.{◌≡◌, ◌<◌, ◌≤◌, ◌+◌, ◌&&◌, ◌||◌, ℕ, Bool, true, false, List, [], ◌∷◌, ◌++◌, Err, length}
 use Rattle.std.proofs.Common.{cond, refl, sym, ap, ◌∙◌, arith, append_assoc, append-nil, length-append, inl, inr}
-use Rattle.std.proofs.KnownBytes.{Consumes-kept}
-use Rattle.std.specs.declared.option.Option.{Option}
-use Rattle.std.specs.Io.KnownBytes.{Consumes}
-use Rattle.io_edge.specs.Told.{IsOver}
+use Rattle.io_edge.proofs.ToldLemmas.{Consumes-kept}
+use Rattle.io_edge.specs.Told.{Coming, Consumes, IsOver}
 use Rattle.io_edge.specs.Feed.{Fed, Feeds, limit}
 use Rattle.io_edge.specs.declared.feed.FeedFault.{FeedFault}
 use Rattle.io_edge.specs.declared.feed.FeedFault.TheVariants.{ReadFault, TooLong}
@@ -72,7 +70,7 @@ part_longer text more begins front =
     omega arith
 
 -- a fault after a front
-pub part_failed : (most first : ℕ) (text : List ℕ) (begins : Bool) (start before after : Option (List ℕ))
+pub part_failed : (most first : ℕ) (text : List ℕ) (begins : Bool) (start before after : Coming)
     (old new : Fed) (fault : FeedFault)
     → Consumes start before text → old.taken ≡ first + length text → length text ≤ most → first + most < limit →
     IsFront text begins

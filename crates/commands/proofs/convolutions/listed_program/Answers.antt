@@ -25,8 +25,8 @@ returns-in_err-plan-clause-told g c =
 
 pub returns-in_err-read_first-clause-told : goal.returns-in_err-read_first-clause-told
 returns-in_err-read_first-clause-told g c =
-    let start = to_come c.args.feed.now (g.I.Source.left c.args.input.now) in
-    let reached = to_come c.read_first.new.feed (g.I.Source.left c.read_first.new.input) in
+    let start = to_come c.args.feed.now (g.I.Source.told c.args.input.now) in
+    let reached = to_come c.read_first.new.feed (g.I.Source.told c.read_first.new.input) in
     let request = c.args.request.now in
     let fault = c.in_err-read_first.field-0.0 in
     let size : length c.deref_mut.result.now ≡ request.size = ap length c.deref_mut.ensures.value ∙ sym c.in_ok-list.list.ok.0 ∙ c.in_ok-list.ensures.len in

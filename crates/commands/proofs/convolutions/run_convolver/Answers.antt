@@ -36,8 +36,8 @@ returns-clause-told g c =
 pub returns-clause-end : goal.returns-clause-end
 returns-clause-end g c =
     λ _.
-    let start = to_come c.args.feed.now (g.I.Source.left c.args.input.now) in
-    let mid = to_come c.listed_program.new.feed (g.I.Source.left c.listed_program.new.input) in
+    let start = to_come c.args.feed.now (g.I.Source.told c.args.input.now) in
+    let mid = to_come c.listed_program.new.feed (g.I.Source.told c.listed_program.new.input) in
     let made = c.in_ok-program.ensures in
     let come = list_come c.args.request.now c.in_ok-machine.machine.code c.in_ok-program.vectors c.args.feed.now c.listed_program.new.feed start mid c.in_ok-program.list.items c.in_ok-program.program
     made.program c.in_ok-machine.ensures.code made.come in

@@ -15,7 +15,7 @@ returns-in_err-count-clause-told g c =
     let answer = c.in_err-count.ensures.answer in
     let p = err_from_is_err_and c.from_residual.result c.from_residual.ensures.1 in
     rw (p.1, p.2) (asked_line_fault (λ text. spelt text >>= turned (procs_named c.args.command.now)) _ _ c.read_line.new.feed.taken answer.0 c.read_line.new.buffer
-    (IsOver (to_come c.read_line.new.feed (g.I.Source.left c.read_line.new.source))) c.in_err-count.field-0.0
+    (IsOver (to_come c.read_line.new.feed (g.I.Source.told c.read_line.new.source))) c.in_err-count.field-0.0
     answer.1 answer.2)
 
 pub returns-in_err-request-clause-told : goal.returns-in_err-request-clause-told

@@ -1,14 +1,14 @@
 use Rattle.std.proofs.Common.{◌≡◌, ◌+◌, ◌≤◌, ◌-◌, length}
-use Rattle.std.specs.Io.KnownBytes.{Consumes}
+use Rattle.io_edge.specs.Told.{Consumes}
 use Rattle.io_edge.specs.Feed.{to_come}
 use Rattle.data_stream.proofs.parts.read_rest.Given as goal
 
 -- the bytes so far were read, one a turn, and nothing failed
 abbrev pub invariant-loop-text : goal.invariant-loop-text
 invariant-loop-text g l =
-    let left = g.S.Source.left in
+    let told = g.S.Source.told in
     record {
-      consumed : Consumes (to_come l.fn.feed (left l.fn.source)) (to_come l.feed (left l.source)) l.text.items;
+      consumed : Consumes (to_come l.fn.feed (told l.fn.source)) (to_come l.feed (told l.source)) l.text.items;
       taken : l.feed.taken ≡ l.fn.feed.taken + length l.text.items;
       short : length l.text.items ≤ l.fn.most;
       faults : g.S.Source.faults l.source ≡ g.S.Source.faults l.fn.source;

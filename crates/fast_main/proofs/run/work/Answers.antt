@@ -20,8 +20,8 @@ returns-in_err-options-clause-words g c =
 
 pub returns-in_err-listing-clause-told : goal.returns-in_err-listing-clause-told
 returns-in_err-listing-clause-told g c =
-    let told = g.I.Source.left c.args.input.now in
-    let left = g.I.Source.left c.read_part.new.source in
+    let told = g.I.Source.told c.args.input.now in
+    let left = g.I.Source.told c.read_part.new.source in
     let answer = c.in_err-listing.ensures.answer in
     let consumes = first_fed told left c.in_ok-feed.feed c.read_part.new.feed answer.0 c.in_ok-feed.ensures answer.1 in
     let p = err_from_is_err_and c.from_residual-in_err-listing.result c.from_residual-in_err-listing.ensures.1 in
@@ -35,8 +35,8 @@ returns-in_err-listing-clause-words g c =
 
 pub returns-in_err-text-clause-told : goal.returns-in_err-text-clause-told
 returns-in_err-text-clause-told g c =
-    let told = g.I.Source.left c.args.input.now in
-    let left = g.I.Source.left c.read_part.new.source in
+    let told = g.I.Source.told c.args.input.now in
+    let left = g.I.Source.told c.read_part.new.source in
     let read = has_read told left c.in_ok-feed.feed c.read_part.new.feed c.deref.result.now c.in_ok-listing.listing c.in_ok-feed.ensures c.deref.ensures.value c.in_ok-listing.ensures.answer in
     let p = err_from_is_err_and c.from_residual-in_err-text.result c.from_residual-in_err-text.ensures.1 in
     rw (p.1, p.2) (told_refused _ (plain_options c.in_ok-options.options) (g.O.Sink.taken c.args.output.now) c.in_ok-options.ensures.ok told left c.read_part.new.feed c.deref.result.now read
@@ -49,8 +49,8 @@ returns-in_err-text-clause-words g c =
 
 pub returns-in_err-write_all-clause-told : goal.returns-in_err-write_all-clause-told
 returns-in_err-write_all-clause-told g c =
-    let told = g.I.Source.left c.args.input.now in
-    let left = g.I.Source.left c.read_part.new.source in
+    let told = g.I.Source.told c.args.input.now in
+    let left = g.I.Source.told c.read_part.new.source in
     let read = has_read told left c.in_ok-feed.feed c.read_part.new.feed c.deref.result.now c.in_ok-listing.listing c.in_ok-feed.ensures c.deref.ensures.value c.in_ok-listing.ensures.answer in
     let p = err_from_is_err_and c.from_residual-in_err-write_all.result c.from_residual-in_err-write_all.ensures.1 in
     let wrote = rw c.deref-2.ensures.value at c.in_err-write_all.ensures.bytes in
@@ -59,8 +59,8 @@ returns-in_err-write_all-clause-told g c =
 
 pub returns-clause-told : goal.returns-clause-told
 returns-clause-told g c =
-    let told = g.I.Source.left c.args.input.now in
-    let left = g.I.Source.left c.read_part.new.source in
+    let told = g.I.Source.told c.args.input.now in
+    let left = g.I.Source.told c.read_part.new.source in
     let read = has_read told left c.in_ok-feed.feed c.read_part.new.feed c.deref.result.now c.in_ok-listing.listing c.in_ok-feed.ensures c.deref.ensures.value c.in_ok-listing.ensures.answer in
     let wrote = rw c.deref-2.ensures.value at c.in_ok-write_all.ensures.bytes in
     told_whole _ (plain_options c.in_ok-options.options) (g.O.Sink.taken c.args.output.now) c.in_ok-options.ensures.ok told left c.read_part.new.feed c.deref.result.now read
@@ -68,8 +68,8 @@ returns-clause-told g c =
 
 pub returns-clause-end : goal.returns-clause-end
 returns-clause-end g c =
-    let told = g.I.Source.left c.args.input.now in
-    let left = g.I.Source.left c.read_part.new.source in
+    let told = g.I.Source.told c.args.input.now in
+    let left = g.I.Source.told c.read_part.new.source in
     let read = has_read told left c.in_ok-feed.feed c.read_part.new.feed c.deref.result.now c.in_ok-listing.listing c.in_ok-feed.ensures c.deref.ensures.value c.in_ok-listing.ensures.answer in
     λ e. listing_ended told left c.read_part.new.feed c.deref.result.now read
 

@@ -12,7 +12,7 @@ use Rattle.runs.proofs.buffered.run_buffered.Goals as goal
 
 pub stream-requires : goal.stream-requires
 stream-requires g c =
-    let start = to_come c.args.feed.now (g.I.Source.left c.args.input.now) in
+    let start = to_come c.args.feed.now (g.I.Source.told c.args.input.now) in
     let size : c.new-vectors.result.size ≡ length c.args.vector.now = ap (λ (v : Cut). v.size) c.new-vectors.ensures in
     record {
       some = omega (arith, size, c.requires.some);
@@ -24,11 +24,11 @@ stream-requires g c =
 
 pub returns-clause-streams : goal.returns-clause-streams
 returns-clause-streams g c =
-    let start = to_come c.args.feed.now (g.I.Source.left c.args.input.now) in
+    let start = to_come c.args.feed.now (g.I.Source.told c.args.input.now) in
     let code = c.args.machine.now.code in
     let events = events_of c.args.events code.procs in
     let taken = g.O.Sink.taken in
-    let reached = to_come c.stream.new.feed (g.I.Source.left c.stream.new.input) in
+    let reached = to_come c.stream.new.feed (g.I.Source.told c.stream.new.input) in
     let size : c.new-vectors.result.size ≡ code.size = ap (λ (v : Cut). v.size) c.new-vectors.ensures ∙ c.requires.size in
     let all = c.stream.ensures.streams c.args.feed.now start [] (come_none code.modulus (length c.args.vector.now) c.new-vectors.result c.args.feed.now start c.new-vectors.ensures) in
     let told = streams_as buffered_at [] (λ x. text_at c.args.lines code (queued (buffered_start code x)) events) (buffered_text c.args.lines code events)

@@ -9,8 +9,8 @@ use Rattle.runs.proofs.first.read_first.Goals as goal
 
 pub returns-in-Ok-Vector-clause-come : goal.returns-in-Ok-Vector-clause-come
 returns-in-Ok-Vector-clause-come g c =
-    let start = to_come c.args.feed.now (g.I.Source.left c.args.input.now) in
-    let reached = to_come c.next.new.feed (g.I.Source.left c.next.new.source) in
+    let start = to_come c.args.feed.now (g.I.Source.told c.args.input.now) in
+    let reached = to_come c.next.new.feed (g.I.Source.told c.next.new.source) in
     let cut = c.args.vectors.now in
     let size : cut.size ≡ length c.args.vector.now = ap (λ (v : Cut). v.size) c.requires.new in
     let answer = rw c.in-Ok-Vector.field-0-is at c.in-Ok-Vector.ensures.answer in
@@ -20,8 +20,8 @@ returns-in-Ok-Vector-clause-come g c =
 
 pub returns-in-Ok-End-clause-none : goal.returns-in-Ok-End-clause-none
 returns-in-Ok-End-clause-none g c =
-    let start = to_come c.args.feed.now (g.I.Source.left c.args.input.now) in
-    let reached = to_come c.next.new.feed (g.I.Source.left c.next.new.source) in
+    let start = to_come c.args.feed.now (g.I.Source.told c.args.input.now) in
+    let reached = to_come c.next.new.feed (g.I.Source.told c.next.new.source) in
     let cut = c.args.vectors.now in
     let size : cut.size ≡ length c.args.vector.now = ap (λ (v : Cut). v.size) c.requires.new in
     let answer = rw c.in-Ok-End.field-0-is at c.in-Ok-End.ensures.answer in
@@ -36,8 +36,8 @@ returns-in-Ok-End-clause-none g c =
 
 pub returns-in-Err-clause-none : goal.returns-in-Err-clause-none
 returns-in-Err-clause-none g c =
-    let start = to_come c.args.feed.now (g.I.Source.left c.args.input.now) in
-    let reached = to_come c.next.new.feed (g.I.Source.left c.next.new.source) in
+    let start = to_come c.args.feed.now (g.I.Source.told c.args.input.now) in
+    let reached = to_come c.next.new.feed (g.I.Source.told c.next.new.source) in
     let cut = c.args.vectors.now in
     let fault = c.in-Err.fault in
     let size : cut.size ≡ length c.args.vector.now = ap (λ (v : Cut). v.size) c.requires.new in

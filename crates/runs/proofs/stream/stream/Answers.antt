@@ -21,7 +21,7 @@ use Rattle.runs.proofs.stream.stream.Goals as goal
 pub loop-machine-init : goal.loop-machine-init
 loop-machine-init g c = record {
   later = [];
-  come = λ old before seen h. subst (λ l. HasCome (g.E.Engine.code c.args.machine.now).modulus c.args.vectors.now old c.args.feed.now before (to_come c.args.feed.now (g.I.Source.left c.args.input.now)) l) (sym (append-nil seen)) h;
+  come = λ old before seen h. subst (λ l. HasCome (g.E.Engine.code c.args.machine.now).modulus c.args.vectors.now old c.args.feed.now before (to_come c.args.feed.now (g.I.Source.told c.args.input.now)) l) (sym (append-nil seen)) h;
   wrote = Appends-nil (g.O.Sink.taken c.args.output.now);
   stands = refl;
   ready = c.requires.ready;
@@ -47,12 +47,12 @@ loop-machine-preserved g c =
     let taken = g.O.Sink.taken in
     let x = c.next.new.vector in
     let some : 0 < before.vectors.size = omega (arith, c.requires.some, inv.size) in
-    let reached = to_come c.next.new.feed (g.I.Source.left c.next.new.source) in
+    let reached = to_come c.next.new.feed (g.I.Source.told c.next.new.source) in
     let answer = rw (c.in-Vector.is, c.ring-modulus.ensures) at c.in_ok-next.ensures.answer in
     record {
       later = inv.later ++ x ∷ [];
       come = λ old start seen h. subst (λ l. HasCome code.modulus c.next.new.self old c.next.new.feed start reached l) (append_assoc seen inv.later (x ∷ []))
-          (come_push code.modulus before.vectors c.next.new.self old before.feed c.next.new.feed start (to_come before.feed (g.I.Source.left before.input)) reached (seen ++ inv.later) answer.0 x
+          (come_push code.modulus before.vectors c.next.new.self old before.feed c.next.new.feed start (to_come before.feed (g.I.Source.told before.input)) reached (seen ++ inv.later) answer.0 x
           some c.next.ensures.size (rw c.in-Vector.is at c.in_ok-next.ensures.done refl) (c.in_ok-next.ensures.within (λ e. cc)) answer.1 (λ e. (answer.2 e, (c.next.ensures.once e).1)) answer.3
           (inv.come old start seen h));
       wrote = texts_more (λ y. text_at c.args.lines code (g.E.Engine.begun code y) events) (taken c.args.output.now) (taken before.output) (taken c.write_run.new.output) inv.later x
@@ -74,7 +74,7 @@ returns-in_err-next-clause-streams g c =
     let fault = c.in_err-next.field-0.0 in
     let x = c.next.new.vector in
     let some : 0 < before.vectors.size = omega (arith, c.requires.some, inv.size) in
-    let reached = to_come c.next.new.feed (g.I.Source.left c.next.new.source) in
+    let reached = to_come c.next.new.feed (g.I.Source.told c.next.new.source) in
     let answer = c.in_err-next.ensures.answer in
     let given = subst (λ m. GivesVector before.vectors.size m before.vectors.done before.feed c.next.new.feed answer.0 c.next.new.self.ended x (Err fault)) c.ring-modulus.ensures answer.3 in
     let going : before.vectors.ended ≡ false = not_true before.vectors.ended (λ e. let other = (c.next.ensures.once e).0 in cc c.in_err-next.was) in
@@ -82,7 +82,7 @@ returns-in_err-next-clause-streams g c =
     rw (p.1, p.2) (λ old start seen h. record {
       later = inv.later;
       reads = subst (λ n. ReadsData n code.modulus old c.next.new.feed start reached (seen ++ inv.later) (Err (stream_fault fault))) inv.size
-          (come_fault code.modulus before.vectors c.next.new.self.ended old before.feed c.next.new.feed start (to_come before.feed (g.I.Source.left before.input)) reached (seen ++ inv.later) answer.0 x fault
+          (come_fault code.modulus before.vectors c.next.new.self.ended old before.feed c.next.new.feed start (to_come before.feed (g.I.Source.told before.input)) reached (seen ++ inv.later) answer.0 x fault
           some c.in_err-next.ensures.within answer.1 going given c.next.ensures.end (inv.come old start seen h));
       wrote = writes_fault fault _ _ _ _ inv.wrote;
       stands = λ _. inv.stands;
@@ -97,7 +97,7 @@ returns-in_err-write_run-clause-streams g c =
     let taken = g.O.Sink.taken in
     let x = c.next.new.vector in
     let some : 0 < before.vectors.size = omega (arith, c.requires.some, inv.size) in
-    let reached = to_come c.next.new.feed (g.I.Source.left c.next.new.source) in
+    let reached = to_come c.next.new.feed (g.I.Source.told c.next.new.source) in
     let answer = rw (c.in-Vector.is, c.ring-modulus.ensures) at c.in_ok-next.ensures.answer in
     let within = c.in_ok-next.ensures.within (λ e. cc) in
     let p = err_from_is_err_and c.from_residual-in_err-write_run.result c.from_residual-in_err-write_run.ensures.1 in
@@ -106,7 +106,7 @@ returns-in_err-write_run-clause-streams g c =
       reads = subst (λ n. ReadsData n code.modulus old c.next.new.feed start reached (seen ++ (inv.later ++ x ∷ [])) (Err WriteFault)) (c.next.ensures.size ∙ inv.size)
           (come_unwritten code.modulus c.next.new.self old c.next.new.feed start reached (seen ++ (inv.later ++ x ∷ [])) (omega (arith, some, c.next.ensures.size)) within c.next.ensures.end
           (subst (λ l. HasCome code.modulus c.next.new.self old c.next.new.feed start reached l) (append_assoc seen inv.later (x ∷ []))
-          (come_push code.modulus before.vectors c.next.new.self old before.feed c.next.new.feed start (to_come before.feed (g.I.Source.left before.input)) reached (seen ++ inv.later) answer.0 x
+          (come_push code.modulus before.vectors c.next.new.self old before.feed c.next.new.feed start (to_come before.feed (g.I.Source.told before.input)) reached (seen ++ inv.later) answer.0 x
           some c.next.ensures.size (rw c.in-Vector.is at c.in_ok-next.ensures.done refl) within answer.1 (λ e. (answer.2 e, (c.next.ensures.once e).1)) answer.3
           (inv.come old start seen h))));
       wrote = texts_cut (λ y. text_at c.args.lines code (g.E.Engine.begun code y) events) (taken c.args.output.now) (taken before.output) (taken c.write_run.new.output) inv.later x
@@ -121,12 +121,12 @@ returns-clause-streams g c =
     let inv = before.invariant in
     let code = g.E.Engine.code c.args.machine.now in
     let some : 0 < before.vectors.size = omega (arith, c.requires.some, inv.size) in
-    let reached = to_come c.next.new.feed (g.I.Source.left c.next.new.source) in
+    let reached = to_come c.next.new.feed (g.I.Source.told c.next.new.source) in
     let answer = rw c.in_default.is at c.in_ok-next.ensures.answer in
     λ old start seen h. record {
       later = inv.later;
       reads = subst (λ n. ReadsData n code.modulus old c.next.new.feed start reached (seen ++ inv.later) (Ok tt)) inv.size
-          (come_end code.modulus before.vectors c.next.new.self.ended old before.feed c.next.new.feed start (to_come before.feed (g.I.Source.left before.input)) reached (seen ++ inv.later) answer.0 c.next.new.vector
+          (come_end code.modulus before.vectors c.next.new.self.ended old before.feed c.next.new.feed start (to_come before.feed (g.I.Source.told before.input)) reached (seen ++ inv.later) answer.0 c.next.new.vector
           some (c.in_ok-next.ensures.within (λ e. cc)) answer.1 (λ e. (answer.2 e, (c.next.ensures.once e).1)) answer.3 c.next.ensures.end (inv.come old start seen h));
       wrote = inv.wrote;
       stands = λ _. inv.stands;

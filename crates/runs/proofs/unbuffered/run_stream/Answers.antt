@@ -6,7 +6,7 @@ use Rattle.runs.proofs.unbuffered.run_stream.Goals as goal
 
 pub run_vectors-requires : goal.run_vectors-requires
 run_vectors-requires g c =
-    let start = to_come c.args.feed.now (g.I.Source.left c.args.input.now) in
+    let start = to_come c.args.feed.now (g.I.Source.told c.args.input.now) in
     let size : c.new-vectors.result.size ≡ c.size.result = ap (λ (v : Cut). v.size) c.new-vectors.ensures in
     record {
       some = omega (arith, size, c.size.ensures.some);
@@ -18,7 +18,7 @@ run_vectors-requires g c =
 
 pub returns-clause-streams : goal.returns-clause-streams
 returns-clause-streams g c =
-    let start = to_come c.args.feed.now (g.I.Source.left c.args.input.now) in
+    let start = to_come c.args.feed.now (g.I.Source.told c.args.input.now) in
     let code = c.args.machine.now.code in
     let size : c.new-vectors.result.size ≡ code.size = ap (λ (v : Cut). v.size) c.new-vectors.ensures ∙ c.size.ensures.value in
     streams_new size

@@ -14,7 +14,7 @@ pub returns-clause-streams : goal.returns-clause-streams
 returns-clause-streams g c =
     let code = c.args.machine.now.code in
     let turns = turns_of c.args.schedule.now code.procs in
-    let reached = to_come c.stream.new.feed (g.I.Source.left c.stream.new.input) in
+    let reached = to_come c.stream.new.feed (g.I.Source.told c.stream.new.input) in
     let taken = g.O.Sink.taken in
     λ old before seen come. streams_as state_at seen (λ x. text_at c.args.lines code (direct (start code x)) (map Turn turns)) (run_text c.args.lines code turns)
     (λ x. ended code (direct (start code x)) (map Turn turns)) (λ x. runs code x turns) c.args.vectors.now.size code.modulus old c.stream.new.feed before reached

@@ -23,21 +23,21 @@ returns-clause-one_side g c =
 pub returns-clause-right : goal.returns-clause-right
 returns-clause-right g c = λ well.
     let words = map (string_bytes {Z = Global}) c.args.words.now.items in
-    let left = g.I.Source.left in
+    let input = g.I.Source.told in
     let taken = g.O.Sink.taken in
     let status = c.ending-status.result in
-    let told : AccountsFor words (left c.args.input.now) (left c.work.new.input) (taken c.args.output.now)
+    let told : AccountsFor words (input c.args.input.now) (input c.work.new.input) (taken c.args.output.now)
     (taken c.work.new.output) status = rw c.ending-status.ensures c.work.ensures.told in
-    any_run_is_right words (left c.args.input.now) (left c.work.new.input) (taken c.args.output.now)
+    any_run_is_right words (input c.args.input.now) (input c.work.new.input) (taken c.args.output.now)
     (taken c.work.new.output) status told well
 
 pub returns-clause-formulas : goal.returns-clause-formulas
 returns-clause-formulas g c = λ well.
     let words = map (string_bytes {Z = Global}) c.args.words.now.items in
-    let left = g.I.Source.left in
+    let input = g.I.Source.told in
     let taken = g.O.Sink.taken in
     let status = c.ending-status.result in
-    let told : AccountsFor words (left c.args.input.now) (left c.work.new.input) (taken c.args.output.now)
+    let told : AccountsFor words (input c.args.input.now) (input c.work.new.input) (taken c.args.output.now)
     (taken c.work.new.output) status = rw c.ending-status.ensures c.work.ensures.told in
-    formula_run_is_right words (left c.args.input.now) (left c.work.new.input) (taken c.args.output.now)
+    formula_run_is_right words (input c.args.input.now) (input c.work.new.input) (taken c.args.output.now)
     (taken c.work.new.output) status told well

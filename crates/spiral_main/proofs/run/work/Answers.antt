@@ -4,7 +4,6 @@ use Rattle.spiral_words.specs.Asked.{IsAsked}
 use Rattle.spiral_words.specs.declared.Command.{Command}
 use Rattle.spiral_words.specs.declared.Command.TheVariants as command
 use Rattle.commands.proofs.Inputs.AskLemmas.{reads_same}
-use Rattle.io_edge.proofs.ToldLemmas.{left_over}
 use Rattle.spiral_main.proofs.Accounts.{accounted_nothing, accounted_words, command_told}
 use Rattle.spiral_main.proofs.run.work.Goals as goal
 
@@ -24,7 +23,7 @@ pub returns-in-ByRequest-clause-end : goal.returns-in-ByRequest-clause-end
 returns-in-ByRequest-clause-end g c = λ success other.
     let words = map (string_bytes {Z = Global}) c.args.words.now.items in
     let same = reads_same words (command.ByRequest c.in-ByRequest.command) other.0 (subst (λ (k : Command). IsAsked words k) c.in-ByRequest.is c.in_ok-command.ensures.command) other.1 in
-    left_over c.perform-ended.new.feed.held (g.I.Source.left c.perform-ended.new.input) (c.perform-ended.ensures.end success (same ∙ other.2))
+    (c.perform-ended.ensures.end success (same ∙ other.2)).1
 
 pub returns-in-ByRequest-clause-after : goal.returns-in-ByRequest-clause-after
 returns-in-ByRequest-clause-after g c = λ _. (c.in_ok-command.command, c.in_ok-command.ensures.command)
@@ -42,7 +41,7 @@ pub returns-in-ByFormula-clause-end : goal.returns-in-ByFormula-clause-end
 returns-in-ByFormula-clause-end g c = λ success other.
     let words = map (string_bytes {Z = Global}) c.args.words.now.items in
     let same = reads_same words (command.ByFormula c.in-ByFormula.modulus c.in-ByFormula.command) other.0 (subst (λ (k : Command). IsAsked words k) c.in-ByFormula.is c.in_ok-command.ensures.command) other.1 in
-    left_over c.by_formula-ended.new.feed.held (g.I.Source.left c.by_formula-ended.new.input) (c.by_formula-ended.ensures.end success (same ∙ other.2))
+    (c.by_formula-ended.ensures.end success (same ∙ other.2)).1
 
 pub returns-in-ByFormula-clause-after : goal.returns-in-ByFormula-clause-after
 returns-in-ByFormula-clause-after g c = λ _. (c.in_ok-command.command, c.in_ok-command.ensures.command)
@@ -58,7 +57,7 @@ returns-in-ByListing-clause-told g c =
 
 pub returns-in-ByListing-clause-end : goal.returns-in-ByListing-clause-end
 returns-in-ByListing-clause-end g c = λ success other.
-    left_over c.exec-ended.new.feed.held (g.I.Source.left c.exec-ended.new.input) (c.exec-ended.ensures.end success)
+    (c.exec-ended.ensures.end success).1
 
 pub returns-in-ByListing-clause-after : goal.returns-in-ByListing-clause-after
 returns-in-ByListing-clause-after g c = λ _. (c.in_ok-command.command, c.in_ok-command.ensures.command)
@@ -76,7 +75,7 @@ pub returns-clause-end : goal.returns-clause-end
 returns-clause-end g c = λ success other.
     let words = map (string_bytes {Z = Global}) c.args.words.now.items in
     let same = reads_same words (command.ByList c.in-ByList.schedule c.in-ByList.code) other.0 (subst (λ (k : Command). IsAsked words k) c.in-ByList.is c.in_ok-command.ensures.command) other.1 in
-    left_over c.convolve-ended.new.feed.held (g.I.Source.left c.convolve-ended.new.input) (c.convolve-ended.ensures.end success (same ∙ other.2))
+    (c.convolve-ended.ensures.end success (same ∙ other.2)).1
 
 pub returns-clause-after : goal.returns-clause-after
 returns-clause-after g c = λ _. (c.in_ok-command.command, c.in_ok-command.ensures.command)

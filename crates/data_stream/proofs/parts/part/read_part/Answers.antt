@@ -1,5 +1,5 @@
 use Rattle.std.proofs.Common.{◌++◌, ◌∷◌, [], sym, ◌∙◌, arith, length-append}
-use Rattle.std.proofs.KnownBytes.{Consumes-trans, Consumes-kept}
+use Rattle.io_edge.proofs.ToldLemmas.{Consumes-trans, Consumes-kept}
 use Rattle.std.proofs.lemmas.Result.{err_from_is_err_and}
 use Rattle.io_edge.specs.Told.{IsOver}
 use Rattle.io_edge.specs.Feed.{to_come}
@@ -10,10 +10,10 @@ use Rattle.data_stream.proofs.parts.part.read_part.Goals as goal
 pub returns-in_err-byte-clause-answer : goal.returns-in_err-byte-clause-answer
 returns-in_err-byte-clause-answer g c =
     let before = c.loop-text in
-    let left = g.S.Source.left in
+    let told = g.S.Source.told in
     let p = err_from_is_err_and c.from_residual.result c.from_residual.ensures.1 in
-    rw (p.1, p.2) (part_failed c.args.most c.args.feed.now.taken before.text.items before.begins (to_come c.args.feed.now (left c.args.source.now)) (to_come before.feed (left before.source))
-    (to_come c.byte.new.self (left c.byte.new.source)) before.feed c.byte.new.self c.in_err-byte.field-0.0
+    rw (p.1, p.2) (part_failed c.args.most c.args.feed.now.taken before.text.items before.begins (to_come c.args.feed.now (told c.args.source.now)) (to_come before.feed (told before.source))
+    (to_come c.byte.new.self (told c.byte.new.source)) before.feed c.byte.new.self c.in_err-byte.field-0.0
     before.invariant.consumed before.invariant.taken before.invariant.short c.requires before.invariant.front c.in_err-byte.ensures.answer)
 
 pub returns-then-ends_part-clause-answer : goal.returns-then-ends_part-clause-answer
@@ -23,12 +23,12 @@ returns-then-ends_part-clause-answer g c =
     let text = before.text.items in
     let grown = length-append text (c.in-Some.byte ∷ []) in (
       text ++ c.in-Some.byte ∷ [],
-      Consumes-trans _ (to_come before.feed (g.S.Source.left before.source)) _ text (c.in-Some.byte ∷ []) before.invariant.consumed given.0,
+      Consumes-trans _ (to_come before.feed (g.S.Source.told before.source)) _ text (c.in-Some.byte ∷ []) before.invariant.consumed given.0,
       (
         omega (arith, given.2, before.invariant.taken, grown),
         before.invariant.short,
         omega (arith, grown),
-        part_ended text before.begins c.in-Some.byte (IsOver (to_come c.byte.new.self (g.S.Source.left c.byte.new.source))) before.invariant.front (sym c.ends_part.ensures ∙ c.if-ends_part.true),
+        part_ended text before.begins c.in-Some.byte (IsOver (to_come c.byte.new.self (g.S.Source.told c.byte.new.source))) before.invariant.front (sym c.ends_part.ensures ∙ c.if-ends_part.true),
       ),
     )
 
@@ -39,7 +39,7 @@ returns-then-len-most-clause-answer g c =
     let text = before.text.items in
     let grown = length-append text (c.in-Some.byte ∷ []) in (
       text ++ c.in-Some.byte ∷ [],
-      Consumes-trans _ (to_come before.feed (g.S.Source.left before.source)) _ text (c.in-Some.byte ∷ []) before.invariant.consumed given.0,
+      Consumes-trans _ (to_come before.feed (g.S.Source.told before.source)) _ text (c.in-Some.byte ∷ []) before.invariant.consumed given.0,
       (
         omega (arith, grown, before.invariant.short),
         λ more.
@@ -55,7 +55,7 @@ returns-in_err-append-clause-answer g c =
     let grown = length-append before.text.items (c.in-Some.byte ∷ []) in
     let p = err_from_is_err_and c.from_residual-in_err-append.result c.from_residual-in_err-append.ensures.1 in (
       before.text.items ++ c.in-Some.byte ∷ [],
-      Consumes-trans _ (to_come before.feed (g.S.Source.left before.source)) _ before.text.items (c.in-Some.byte ∷ []) before.invariant.consumed given.0,
+      Consumes-trans _ (to_come before.feed (g.S.Source.told before.source)) _ before.text.items (c.in-Some.byte ∷ []) before.invariant.consumed given.0,
       rw (p.1, p.2) (omega (arith, grown, before.invariant.short)),
     )
 
@@ -65,11 +65,11 @@ returns-clause-answer g c =
     let before = c.loop-text in
     let text = before.text.items in (
       text,
-      Consumes-kept _ (to_come before.feed (g.S.Source.left before.source)) _ text before.invariant.consumed given.0,
+      Consumes-kept _ (to_come before.feed (g.S.Source.told before.source)) _ text before.invariant.consumed given.0,
       (
         omega (arith, given.3, before.invariant.taken),
         before.invariant.short,
         omega arith,
-        part_cut text before.begins (IsOver (to_come c.byte.new.self (g.S.Source.left c.byte.new.source))) before.invariant.front given.1,
+        part_cut text before.begins (IsOver (to_come c.byte.new.self (g.S.Source.told c.byte.new.source))) before.invariant.front given.1,
       ),
     )

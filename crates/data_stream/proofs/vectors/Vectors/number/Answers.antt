@@ -32,8 +32,8 @@ loop-byte-preserved-else-token-gt0 g c =
     let given = rw c.in-Some.is at c.in_ok-byte.ensures.answer in
     let none : c.loop-byte.token.count ≡ 0 = omega arith in
     let before = c.loop-byte.feed in
-    let start = to_come c.args.feed.now (g.S.Source.left c.args.source.now) in
-    let reached = to_come before (g.S.Source.left c.loop-byte.source) in
+    let start = to_come c.args.feed.now (g.S.Source.told c.args.source.now) in
+    let reached = to_come before (g.S.Source.told c.loop-byte.source) in
     let p = subst (λ n. Progress start reached c.args.feed.now.taken before.taken n c.loop-byte.token.value) none c.loop-byte.invariant.progress in
     record {
       progress = rw (given.2, none) (progress_skip start reached _ c.args.feed.now.taken before.taken c.loop-byte.token.value c.in-Some.byte p given.0 (sym c.is_between.ensures ∙ c.if-is_between.true));
@@ -72,8 +72,8 @@ returns-then-token-eq0-clause-answer g c =
     let given = rw c.in_default.is at c.in_ok-byte.ensures.answer in
     let none : c.loop-byte.token.count ≡ 0 = omega arith in
     let before = c.loop-byte.feed in
-    let start = to_come c.args.feed.now (g.S.Source.left c.args.source.now) in
-    let reached = to_come before (g.S.Source.left c.loop-byte.source) in
+    let start = to_come c.args.feed.now (g.S.Source.told c.args.source.now) in
+    let reached = to_come before (g.S.Source.told c.loop-byte.source) in
     let p = subst (λ n. Progress start reached c.args.feed.now.taken before.taken n c.loop-byte.token.value) none c.loop-byte.invariant.progress in
     let r = progress_none start reached _ c.args.feed.now c.byte.new.self before.taken c.loop-byte.token.value true p given.0 refl given.3 in
     (r.0, r.1, λ e. absurd (not_ended _ c.if-self.false (ap (λ (v : Cut). v.ended) c.self.view_is ∙ e)), r.2)
