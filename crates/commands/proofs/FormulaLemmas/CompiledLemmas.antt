@@ -13,7 +13,6 @@ use Rattle.icode.specs.Machine.{results}
 use Rattle.icode.specs.Plain.{PlainProgram}
 use Rattle.icode.specs.Program.{plain_program}
 use Rattle.icode.specs.declared.program.Program.{Program}
-use Rattle.icode.proofs.Below.{below_from_all}
 use Rattle.generate.specs.FormulaCode.Code.{IsCodeOf}
 use Rattle.spl_ast.specs.Formula.{Formula, size_of}
 use Rattle.spl_ast.specs.Meaning as formulas
@@ -135,7 +134,7 @@ formula_lines m formula own turns is there ts =
     let some : 0 < m = omega (arith, is.limits.header.of_modulus.0, is.header.modulus) in
     let f : List ℕ → List ℕ = λ x. results (plain_code own) x turns in
     let same : (x : List ℕ) → length x ≡ size_of formula → All (λ v. v < m) x → f x ≡ formulas.apply m formula x =
-    λ x full below. is.product x turns (record { size = full; residues = λ i _. below_from_all m x some below i }) there in
+    λ x full below. is.product x turns (record { size = full; residues = below }) there in
     lines_equal (size_of formula) m f (formulas.apply m formula) same some (length ts / size_of formula) ts (div-mul-le_self (length ts) (size_of formula))
 
 pub apply_told : (m : ℕ) (schedule : Plan) (program : Program) (front : Vec ℕ Global)

@@ -9,7 +9,6 @@ use Rattle.icode.specs.Plain.{PlainProgram}
 use Rattle.spl_ast.specs.Meaning.{IsVector}
 use Rattle.spl_ast.specs.Formula.{Formula, size_of, parts_of}
 use Rattle.spl_ast.specs.Meaning.{IsSameMatrix}
-use Rattle.spl_ast.proofs.Vectors.{vector_of}
 
 operations-know : (weight m : ℕ) → KnowsSums (λ f g. operations weight m g ≡ operations weight m f)
 operations-know weight m = record {
@@ -43,10 +42,10 @@ same_code m f g p regrouped same code = record {
   apart = code.apart;
   product = λ x turns v mine.
       code.product x turns (subst (λ (n : ℕ). IsVector m n x) (sym same.size) v) mine
-      ∙ same.meaning x (vector_of m (size_of f) x v.size v.residues);
+      ∙ same.meaning x v;
   again = λ left x turns are v.
       code.again left x turns are (subst (λ (n : ℕ). IsVector m n x) (sym same.size) v)
-      ∙ same.meaning x (vector_of m (size_of f) x v.size v.residues);
+      ∙ same.meaning x v;
   fresh = code.fresh;
   operations = code.operations ∙ alike (operations 1 m) (operations-know 1 m) f g regrouped;
 }

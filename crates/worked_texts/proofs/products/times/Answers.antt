@@ -4,7 +4,6 @@ use Rattle.sigma_spl.proofs.PlainLemmas.Fitting.{good_fit}
 use Rattle.sigma_spl.specs.Sigma.{sigma_on}
 use Rattle.sigma_spl.specs.Views.{plain_sigma}
 use Rattle.spl_ast.specs.Meaning.{IsVector}
-use Rattle.spl_ast.proofs.Vectors.{residue_at}
 use Rattle.worked_texts.proofs.products.times.Goals as goal
 
 pub apply_plain-requires-clause-fits : goal.apply_plain-requires-clause-fits
@@ -20,12 +19,9 @@ apply_plain-requires-clause-vector c =
 
 pub returns : goal.returns
 returns c =
-    let request = c.args.c.now in
     let x = c.args.x.now in
-    let v = c.requires.vector in
     let same : c.unwrap-modulus.result ≡ c.request-request.result.modulus = rw c.unwrap-modulus.ensures at c.new.ensures.value in
     let modulus = same ∙ ap (λ (r : Request). r.modulus) c.request-request.ensures.value in
     c.in_ok-y.ensures.value
     ∙ ap (λ m. sigma_on m (plain_sigma c.in_ok-terms.terms) x) modulus
-    ∙ c.in_ok-terms.ensures.meaning x
-    (record { size = v.size; residues = λ i below. residue_at request.modulus request.size x i v below })
+    ∙ c.in_ok-terms.ensures.meaning x c.requires.vector
