@@ -4,3 +4,6 @@ pub mod PlaceTexts
 pub mod PlaceRoom
 pub mod PlaceValues
 pub mod FunctionValues
+pub mod ProgramTexts
+pub mod ProgramGrammar
+pub mod ProgramScopes

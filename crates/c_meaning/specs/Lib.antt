@@ -12,3 +12,5 @@ pub mod Procedures
 pub mod PlaceTrees
 pub mod PlaceLaws
 pub mod FunctionLaws
+pub mod ProgramTrees
+pub mod ProgramLaws

@@ -134,3 +134,16 @@ abbrev mutual
   pub are_read_so : CExprs → Bool
   are_read_so Nil = true
   are_read_so (Cons first rest) = is_read_so first && are_read_so rest
+
+-- so are the expressions of a statement: of an assignment anything, of `(void)` what a cast may be of, and of a loop what `<` may
+-- compare with
+abbrev mutual
+  pub is_stmt_read_so : CStmt → Bool
+  is_stmt_read_so (Assign array indices value) = are_read_so indices && is_read_so value
+  is_stmt_read_so (Ignore value) = nat_le 14 (level value) && is_read_so value
+  is_stmt_read_so (For type name bound body) = nat_lt 10 (level bound) && (is_read_so bound && is_stmt_read_so body)
+  is_stmt_read_so (Block body) = are_stmts_read_so body
+
+  pub are_stmts_read_so : CStmts → Bool
+  are_stmts_read_so Skip = true
+  are_stmts_read_so (Then first rest) = is_stmt_read_so first && are_stmts_read_so rest

@@ -7,6 +7,7 @@ ghost use Rattle.c_meaning.specs.Procedures as procedures;
 ghost use Rattle.c_meaning.specs.Units.{unit_text};
 ghost use Rattle.c_meaning.specs.PlaceLaws.{PlacesAreTrees, PlacesHaveValues};
 ghost use Rattle.c_meaning.specs.FunctionLaws.{FunctionsAreTrees, FunctionsCompute};
+ghost use Rattle.c_meaning.specs.ProgramLaws.{ProgramsAreTrees, PhasesAreRead, UnitsCompute, PhasesKnow};
 
 /// The tables of small texts, which compilers are compared with, hold in this meaning.
 pub fn small_texts()
@@ -25,4 +26,13 @@ pub fn places()
 pub fn functions()
     ensures trees { FunctionsAreTrees }
     ensures values { FunctionsCompute }
+{}
+
+/// The C text of a program is a tree. In it each function computes on residues modulo the program's modulus, and where a
+/// statement of a phase stands, the names of places have the values of the processor and of the open loops.
+pub fn programs()
+    ensures trees { ProgramsAreTrees }
+    ensures grammar { PhasesAreRead }
+    ensures functions { UnitsCompute }
+    ensures names { PhasesKnow }
 {}
