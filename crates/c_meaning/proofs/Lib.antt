@@ -7,3 +7,5 @@ pub mod FunctionValues
 pub mod ProgramTexts
 pub mod ProgramGrammar
 pub mod ProgramScopes
+pub mod Addresses
+pub mod Entries

@@ -57,7 +57,7 @@ processor_kept : (vs : List ℕ) (depth : ℕ) (s : Scope) →
 processor_kept [] depth s = (refl, refl)
 processor_kept (v ∷ vs) depth s = processor_kept vs (depth + 1) (with_variable Word (loop_variable depth) (pos v) s)
 
-another : {A : Type 0} (e depth : ℕ) (x y : A) → e < depth → (if e == depth then x else y) ≡ y
+pub another : {A : Type 0} (e depth : ℕ) (x y : A) → e < depth → (if e == depth then x else y) ≡ y
 another e depth x y h = ap (λ b. if b then x else y) (ne_eqb e depth (λ same. let no : ⊥ = omega arith in no))
 
 outer_kept : (vs : List ℕ) (depth e : ℕ) (s : Scope) → e < depth →
@@ -68,7 +68,7 @@ outer_kept (v ∷ vs) depth e s h =
     let rest = outer_kept vs (depth + 1) e (with_variable Word (loop_variable depth) (pos v) s) (omega arith) in
     (rest.0 ∙ another e depth Word (s.type (loop_variable e)) h, rest.1 ∙ another e depth _ (s.value (loop_variable e)) h)
 
-this : {A : Type 0} (e depth : ℕ) (x y : A) → e ≡ depth → (if e == depth then x else y) ≡ x
+pub this : {A : Type 0} (e depth : ℕ) (x y : A) → e ≡ depth → (if e == depth then x else y) ≡ x
 this e depth x y h = ap (λ b. if b then x else y) (eq-eqb e depth h)
 
 -- the variable of each loop has its value

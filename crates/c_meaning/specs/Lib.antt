@@ -14,3 +14,5 @@ pub mod PlaceLaws
 pub mod FunctionLaws
 pub mod ProgramTrees
 pub mod ProgramLaws
+pub mod AddressLaws
+pub mod EntryLaws

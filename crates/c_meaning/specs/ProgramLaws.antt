@@ -20,15 +20,16 @@ ProgramsAreTrees = (p : PlainProgram) → c_text_of p ≡ unit_text (unit_of p)
 abbrev pub PhasesAreRead : Type 0
 PhasesAreRead = (regs phase : ℕ) (body : PlainBody) → are_stmts_read_so (phase_tree regs phase body).body ≡ true
 
--- in the scope of a program's text the functions have no undefined step for residues, and return their sum, difference, negation
--- and product
+-- in the scope of a program's text the functions have no undefined step for residues, and return their sum, difference,
+-- negation and product
 abbrev pub UnitsCompute : Type 0
 UnitsCompute =
     (p : PlainProgram) → p.modulus < 2 ^ 62 → (a b : ℕ) → a < p.modulus → b < p.modulus →
-    ((scope_of (unit_of p)).function (word (codes "add")) (pos a ∷ pos b ∷ []) ≡ Defined (pos (sum_mod p.modulus a b)))
-    × ((scope_of (unit_of p)).function (word (codes "sub")) (pos a ∷ pos b ∷ []) ≡ Defined (pos (difference_mod p.modulus a b)))
-    × ((scope_of (unit_of p)).function (word (codes "sub")) (pos 0 ∷ pos a ∷ []) ≡ Defined (pos (negation_mod p.modulus a)))
-    × ((scope_of (unit_of p)).function (word (codes "mul")) (pos a ∷ pos b ∷ []) ≡ Defined (pos (product_mod p.modulus a b)))
+    let function = (scope_of (unit_of p)).function in
+    (function (word (codes "add")) (pos a ∷ pos b ∷ []) ≡ Defined (pos (sum_mod p.modulus a b)))
+    × (function (word (codes "sub")) (pos a ∷ pos b ∷ []) ≡ Defined (pos (difference_mod p.modulus a b)))
+    × (function (word (codes "sub")) (pos 0 ∷ pos a ∷ []) ≡ Defined (pos (negation_mod p.modulus a)))
+    × (function (word (codes "mul")) (pos a ∷ pos b ∷ []) ≡ Defined (pos (product_mod p.modulus a b)))
 
 -- with the variables of loops from this depth on, which have these values
 abbrev pub with_loops : ℕ → List ℕ → Scope → Scope
@@ -43,4 +44,5 @@ phase_scope p q =
 -- where a statement of a phase stands, places know the values of the open loops and of the processor
 abbrev pub PhasesKnow : Type 0
 PhasesKnow =
-    (p : PlainProgram) (q : ℕ) (vs : List ℕ) → q < 2 ^ 64 → All (λ v. v < 2 ^ 64) vs → Knows (with_loops 0 vs (phase_scope p q)) vs q
+    (p : PlainProgram) (q : ℕ) (vs : List ℕ) → q < 2 ^ 64 → All (λ v. v < 2 ^ 64) vs →
+    Knows (with_loops 0 vs (phase_scope p q)) vs q

@@ -95,14 +95,17 @@ phase_tree regs phase body =
     record {
       name = numbered (codes "phase") phase;
       parameter = record { type = Word; name = processor };
-      arrays = record { type = Word; name = registers_name; lengths = Cons (number regs) (Cons (Named lanes_name) Nil) } ∷ [];
+      arrays =
+          record { type = Word; name = registers_name; lengths = Cons (number regs) (Cons (Named lanes_name) Nil) }
+          ∷ [];
       body = Then (Ignore (Named processor)) (body_tree 0 body);
     }
 
 -- the tables, and the phases, from this number on
 abbrev pub table_trees : ℕ → List (List ℕ) → List Table
 table_trees table [] = []
-table_trees table (entries ∷ tables) = record { name = table_name table; entries = entries } ∷ table_trees (table + 1) tables
+table_trees table (entries ∷ tables) =
+    record { name = table_name table; entries = entries } ∷ table_trees (table + 1) tables
 
 abbrev pub phase_trees : ℕ → ℕ → List PlainBody → List Procedure
 phase_trees regs phase [] = []
@@ -114,7 +117,8 @@ unit_of p =
     record {
       comment = header_text (header_of p);
       macros =
-          record { name = modulus_name; number = p.modulus; suffix = ULL } ∷ record { name = lanes_name; number = p.lanes; suffix = Bare }
+          record { name = modulus_name; number = p.modulus; suffix = ULL }
+          ∷ record { name = lanes_name; number = p.lanes; suffix = Bare }
           ∷ [];
       parts =
           record { name = array_name arrays.X; start = 0 }

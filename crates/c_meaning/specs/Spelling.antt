@@ -73,8 +73,8 @@ abbrev mutual
       name_text array ++ indices_text indices ++ (codes " = " ++ (expr_text value ++ codes ";"))
   stmt_text (Ignore value) = codes "(void)" ++ expr_text value ++ codes ";"
   stmt_text (For type name bound body) =
-      codes "for (" ++ type_text type ++ codes " " ++ name_text name ++ codes " = 0; " ++ name_text name ++ codes " < " ++ expr_text bound
-      ++ codes "; " ++ name_text name ++ codes "++) " ++ stmt_text body
+      codes "for (" ++ type_text type ++ codes " " ++ name_text name ++ codes " = 0; " ++ name_text name ++ codes " < "
+      ++ expr_text bound ++ codes "; " ++ name_text name ++ codes "++) " ++ stmt_text body
   stmt_text (Block body) = codes "{\n" ++ stmts_text body ++ codes "}"
 
   pub stmts_text : CStmts → List ℕ
@@ -93,13 +93,14 @@ local_text l = type_text l.type ++ codes " " ++ name_text l.name ++ codes " = " 
 
 abbrev pub function_text : Function → List ℕ
 function_text f =
-    codes "static " ++ type_text f.result ++ codes " " ++ name_text f.name ++ codes "(" ++ parameters_text f.parameters ++ codes ") { "
-    ++ flat_map local_text f.locals ++ codes "return " ++ expr_text f.value ++ codes "; }\n"
+    codes "static " ++ type_text f.result ++ codes " " ++ name_text f.name ++ codes "("
+    ++ parameters_text f.parameters ++ codes ") { " ++ flat_map local_text f.locals
+    ++ codes "return " ++ expr_text f.value ++ codes "; }\n"
 
 abbrev pub array_text : NewArray → List ℕ
 array_text a = type_text a.type ++ codes " " ++ name_text a.name ++ indices_text a.lengths ++ codes ";\n"
 
 abbrev pub procedure_text : Procedure → List ℕ
 procedure_text p =
-    codes "void " ++ name_text p.name ++ (codes "(" ++ parameter_text p.parameter ++ codes ") {\n") ++ flat_map array_text p.arrays
-    ++ stmts_text p.body ++ codes "}\n"
+    codes "void " ++ name_text p.name ++ (codes "(" ++ parameter_text p.parameter ++ codes ") {\n")
+    ++ flat_map array_text p.arrays ++ stmts_text p.body ++ codes "}\n"

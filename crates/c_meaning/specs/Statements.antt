@@ -44,7 +44,8 @@ abbrev mutual
 
   pub steps_of_all : Scope → CStmts → Outcome (List Step)
   steps_of_all s Skip = Defined []
-  steps_of_all s (Then first rest) = steps_of s first >>= λ steps. steps_of_all s rest >>= λ more. Defined (steps ++ more)
+  steps_of_all s (Then first rest) =
+      steps_of s first >>= λ steps. steps_of_all s rest >>= λ more. Defined (steps ++ more)
 
 -- what steps leave, one after another
 abbrev pub run : List Step → Words → Outcome Words
@@ -67,7 +68,8 @@ abbrev pub with_new : List NewArray → Scope → Words → Outcome (Scope × Wo
 with_new [] s words = Defined (s, words)
 with_new (a ∷ arrays) s words =
     values_of s no_words a.lengths >>= λ xs. lengths_of xs >>= λ lengths.
-    with_new arrays (with_array a.type a.name lengths s) (instead a.name (replicate (product_of lengths) Undefined) words)
+    with_new arrays (with_array a.type a.name lengths s)
+    (instead a.name (replicate (product_of lengths) Undefined) words)
 
 -- the steps of a procedure, called with an argument, and the words at its start
 abbrev pub called : Scope → Procedure → ℤ → Words → Outcome (List Step × Words)

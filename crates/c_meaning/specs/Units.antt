@@ -42,7 +42,8 @@ macro_text m = codes "#define " ++ name_text m.name ++ codes " " ++ constant_tex
 
 abbrev pub part_text : Name → Part → List ℕ
 part_text memory p =
-    codes "#define " ++ name_text p.name ++ codes " (" ++ name_text memory ++ codes " + " ++ decimal p.start ++ codes ")\n"
+    codes "#define " ++ name_text p.name ++ codes " (" ++ name_text memory
+    ++ codes " + " ++ decimal p.start ++ codes ")\n"
 
 abbrev pub words_text : Name → ℕ → List ℕ
 words_text memory words = codes "static uint64_t " ++ name_text memory ++ codes "[" ++ decimal words ++ codes "];\n"
@@ -54,7 +55,8 @@ table_text t =
 
 abbrev pub front_text : CUnit → List ℕ
 front_text u =
-    codes "#include <stdint.h>\n" ++ (flat_map macro_text u.macros ++ (flat_map (part_text u.memory) u.parts ++ words_text u.memory u.words))
+    codes "#include <stdint.h>\n"
+    ++ (flat_map macro_text u.macros ++ (flat_map (part_text u.memory) u.parts ++ words_text u.memory u.words))
 
 abbrev pub unit_text : CUnit → List ℕ
 unit_text u =
@@ -65,7 +67,8 @@ unit_text u =
 
 abbrev pub with_macros : List Macro → Scope → Scope
 with_macros [] s = s
-with_macros (m ∷ macros) s = with_macros macros (with_variable (constant_type m.suffix m.number) m.name (pos m.number) s)
+with_macros (m ∷ macros) s =
+    with_macros macros (with_variable (constant_type m.suffix m.number) m.name (pos m.number) s)
 
 abbrev pub with_parts : Name → List Part → Scope → Scope
 with_parts memory [] s = s
@@ -82,7 +85,8 @@ with_functions (f ∷ functions) s = with_functions functions (with_function f s
 abbrev pub scope_of : CUnit → Scope
 scope_of u =
     with_functions u.functions
-    (with_tables u.tables (with_array Word u.memory (u.words ∷ []) (with_parts u.memory u.parts (with_macros u.macros nothing))))
+    (with_tables u.tables
+    (with_array Word u.memory (u.words ∷ []) (with_parts u.memory u.parts (with_macros u.macros nothing))))
 
 -- Its words before anything runs
 

@@ -7,6 +7,8 @@ ghost use Rattle.c_meaning.specs.Procedures as procedures;
 ghost use Rattle.c_meaning.specs.Units.{unit_text};
 ghost use Rattle.c_meaning.specs.PlaceLaws.{PlacesAreTrees, PlacesHaveValues};
 ghost use Rattle.c_meaning.specs.FunctionLaws.{FunctionsAreTrees, FunctionsCompute};
+ghost use Rattle.c_meaning.specs.AddressLaws.{ElementsAreWords, RegistersAreWords};
+ghost use Rattle.c_meaning.specs.EntryLaws.{TablesHaveEntries, EntriesAreWords};
 ghost use Rattle.c_meaning.specs.ProgramLaws.{ProgramsAreTrees, PhasesAreRead, UnitsCompute, PhasesKnow};
 
 /// The tables of small texts, which compilers are compared with, hold in this meaning.
@@ -16,7 +18,7 @@ pub fn small_texts()
     ensures procedures { list_all procedures.holds procedures.rows ≡ true }
 {}
 
-/// The place of a load, a store or a factor: its text is a tree, which has no undefined step and the value of the place.
+/// The place of a load, a store or a factor: its text is a tree, which has no undefined step and the place's value.
 pub fn places()
     ensures trees { PlacesAreTrees }
     ensures values { PlacesHaveValues }
@@ -28,11 +30,20 @@ pub fn functions()
     ensures values { FunctionsCompute }
 {}
 
-/// The C text of a program is a tree. In it each function computes on residues modulo the program's modulus, and where a
-/// statement of a phase stands, the names of places have the values of the processor and of the open loops.
+/// The C text of a program is a tree. In it each function computes on residues modulo the program's modulus, and where
+/// a statement of a phase stands, the names of places have the values of the processor and of the open loops.
 pub fn programs()
     ensures trees { ProgramsAreTrees }
     ensures grammar { PhasesAreRead }
     ensures functions { UnitsCompute }
     ensures names { PhasesKnow }
+{}
+
+/// Where the statement of a lane stands, the elements of arrays, registers and tables are the words and the entries that
+/// the machine's actions name.
+pub fn elements()
+    ensures arrays { ElementsAreWords }
+    ensures registers { RegistersAreWords }
+    ensures tables { TablesHaveEntries }
+    ensures entries { EntriesAreWords }
 {}
