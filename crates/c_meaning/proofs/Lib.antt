@@ -9,3 +9,4 @@ pub mod ProgramGrammar
 pub mod ProgramScopes
 pub mod Addresses
 pub mod Entries
+pub mod LaneValues

@@ -16,3 +16,4 @@ pub mod ProgramTrees
 pub mod ProgramLaws
 pub mod AddressLaws
 pub mod EntryLaws
+pub mod LaneLaws

@@ -9,6 +9,7 @@ ghost use Rattle.c_meaning.specs.PlaceLaws.{PlacesAreTrees, PlacesHaveValues};
 ghost use Rattle.c_meaning.specs.FunctionLaws.{FunctionsAreTrees, FunctionsCompute};
 ghost use Rattle.c_meaning.specs.AddressLaws.{ElementsAreWords, RegistersAreWords};
 ghost use Rattle.c_meaning.specs.EntryLaws.{TablesHaveEntries, EntriesAreWords};
+ghost use Rattle.c_meaning.specs.LaneLaws.{LanesCompute, LanesBecome};
 ghost use Rattle.c_meaning.specs.ProgramLaws.{ProgramsAreTrees, PhasesAreRead, UnitsCompute, PhasesKnow};
 
 /// The tables of small texts, which compilers are compared with, hold in this meaning.
@@ -46,4 +47,10 @@ pub fn elements()
     ensures registers { RegistersAreWords }
     ensures tables { TablesHaveEntries }
     ensures entries { EntriesAreWords }
+{}
+
+/// A lane of an operation on registers: its text computes on residues, and a lane of a register becomes a value.
+pub fn lanes()
+    ensures values { LanesCompute }
+    ensures steps { LanesBecome }
 {}

@@ -1,0 +1,5 @@
+use Rattle.c_meaning.proofs.LaneValues.{lanes_compute, lanes_become}
+use Rattle.c_meaning.proofs.laws.lanes.Goals as goal
+
+pub returns : goal.returns
+returns _ = record { values = lanes_compute; steps = lanes_become }
