@@ -19,7 +19,7 @@ use Rattle.c_meaning.proofs.ProgramScopes.{units_compute}
 use Rattle.c_meaning.proofs.Addresses.{registers_are_words}
 
 -- one step after another, in either grouping
-grouped : {A B C : Type 0} (o : Outcome A) (f : A → Outcome B) (g : B → Outcome C) → (o >>= λ x. f x >>= g) ≡ ((o >>= f) >>= g)
+pub grouped : {A B C : Type 0} (o : Outcome A) (f : A → Outcome B) (g : B → Outcome C) → (o >>= λ x. f x >>= g) ≡ ((o >>= f) >>= g)
 grouped Undefined f g = refl
 grouped (Defined x) f g = refl
 
@@ -38,7 +38,7 @@ type_kept [] depth s = refl
 type_kept (v ∷ vs) depth s = type_kept vs (depth + 1) (with_variable Word (loop_variable depth) (pos v) s)
 
 module _ (p : PlainProgram) (q : ℕ) (vs : List ℕ) (words : Words) (l : ℕ) (few : p.regs < 2 ^ 20) (narrow : p.lanes ≤ 16) (is_lane : l < p.lanes) where
-  register_value : (x a : ℕ) → x < p.regs → Holds words registers_name (x * p.lanes + l) a →
+  pub register_value : (x a : ℕ) → x < p.regs → Holds words registers_name (x * p.lanes + l) a →
       value_of (lane_scope p q vs l) words (register x) ≡ Defined (pos a)
   register_value x a h held =
       let s = lane_scope p q vs l in

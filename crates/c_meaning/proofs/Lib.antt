@@ -10,3 +10,4 @@ pub mod ProgramScopes
 pub mod Addresses
 pub mod Entries
 pub mod LaneValues
+pub mod MemoryValues

@@ -17,3 +17,4 @@ pub mod ProgramLaws
 pub mod AddressLaws
 pub mod EntryLaws
 pub mod LaneLaws
+pub mod MemoryLaws

@@ -10,6 +10,7 @@ ghost use Rattle.c_meaning.specs.FunctionLaws.{FunctionsAreTrees, FunctionsCompu
 ghost use Rattle.c_meaning.specs.AddressLaws.{ElementsAreWords, RegistersAreWords};
 ghost use Rattle.c_meaning.specs.EntryLaws.{TablesHaveEntries, EntriesAreWords};
 ghost use Rattle.c_meaning.specs.LaneLaws.{LanesCompute, LanesBecome};
+ghost use Rattle.c_meaning.specs.MemoryLaws.{LanesLoad, LanesStore};
 ghost use Rattle.c_meaning.specs.ProgramLaws.{ProgramsAreTrees, PhasesAreRead, UnitsCompute, PhasesKnow};
 
 /// The tables of small texts, which compilers are compared with, hold in this meaning.
@@ -53,4 +54,10 @@ pub fn elements()
 pub fn lanes()
     ensures values { LanesCompute }
     ensures steps { LanesBecome }
+{}
+
+/// A lane of a load has the number of its address, and a lane of a store leaves one there.
+pub fn memory()
+    ensures loads { LanesLoad }
+    ensures stores { LanesStore }
 {}
