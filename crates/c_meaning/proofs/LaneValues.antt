@@ -49,7 +49,7 @@ module _ (p : PlainProgram) (q : ℕ) (vs : List ℕ) (words : Words) (l : ℕ) 
       ∙ held
 
   -- a call with two arguments
-  call_is : (function : Name) (left right : CExpr) (a b : ℤ) (result : Outcome ℤ) →
+  pub call_is : (function : Name) (left right : CExpr) (a b : ℤ) (result : Outcome ℤ) →
       value_of (lane_scope p q vs l) words left ≡ Defined a → value_of (lane_scope p q vs l) words right ≡ Defined b →
       (scope_of (unit_of p)).function function (a ∷ b ∷ []) ≡ result →
       (values_of (lane_scope p q vs l) words (Cons left (Cons right Nil)) >>= λ xs. (lane_scope p q vs l).function function xs) ≡ result

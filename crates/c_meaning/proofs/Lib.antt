@@ -11,3 +11,4 @@ pub mod Addresses
 pub mod Entries
 pub mod LaneValues
 pub mod MemoryValues
+pub mod ScaleValues

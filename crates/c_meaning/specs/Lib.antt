@@ -18,3 +18,4 @@ pub mod AddressLaws
 pub mod EntryLaws
 pub mod LaneLaws
 pub mod MemoryLaws
+pub mod ScaleLaws

@@ -11,6 +11,7 @@ ghost use Rattle.c_meaning.specs.AddressLaws.{ElementsAreWords, RegistersAreWord
 ghost use Rattle.c_meaning.specs.EntryLaws.{TablesHaveEntries, EntriesAreWords};
 ghost use Rattle.c_meaning.specs.LaneLaws.{LanesCompute, LanesBecome};
 ghost use Rattle.c_meaning.specs.MemoryLaws.{LanesLoad, LanesStore};
+ghost use Rattle.c_meaning.specs.ScaleLaws.{LanesScale};
 ghost use Rattle.c_meaning.specs.ProgramLaws.{ProgramsAreTrees, PhasesAreRead, UnitsCompute, PhasesKnow};
 
 /// The tables of small texts, which compilers are compared with, hold in this meaning.
@@ -50,9 +51,11 @@ pub fn elements()
     ensures entries { EntriesAreWords }
 {}
 
-/// A lane of an operation on registers: its text computes on residues, and a lane of a register becomes a value.
+/// A lane of an operation: on registers, and on a register and a table, its text computes on residues, and a lane of a
+/// register becomes a value.
 pub fn lanes()
     ensures values { LanesCompute }
+    ensures products { LanesScale }
     ensures steps { LanesBecome }
 {}
 
