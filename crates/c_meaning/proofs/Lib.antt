@@ -12,3 +12,4 @@ pub mod Entries
 pub mod LaneValues
 pub mod MemoryValues
 pub mod ScaleValues
+pub mod LaneSteps

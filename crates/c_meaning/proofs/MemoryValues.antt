@@ -21,14 +21,14 @@ use Rattle.c_meaning.proofs.LaneValues.{grouped, register_value}
 
 -- ---- the types of arrays
 
-loops_keep_type : (vs : List ℕ) (depth : ℕ) (s : Scope) (name : Name) →
+pub loops_keep_type : (vs : List ℕ) (depth : ℕ) (s : Scope) (name : Name) →
     ((k : ℕ) → same_name name (loop_variable k) ≡ false) → (with_loops depth vs s).type name ≡ s.type name
 loops_keep_type [] depth s name other = refl
 loops_keep_type (v ∷ vs) depth s name other =
     loops_keep_type vs (depth + 1) (with_variable Word (loop_variable depth) (pos v) s) name other
     ∙ ap (λ b. if b then Word else s.type name) (other depth)
 
-tables_keep_type : (first : ℕ) (tables : List (List ℕ)) (s : Scope) (name : Name) →
+pub tables_keep_type : (first : ℕ) (tables : List (List ℕ)) (s : Scope) (name : Name) →
     ((k : ℕ) → same_name name (numbered (codes "t") k) ≡ false) → (with_tables (table_trees first tables) s).type name ≡ s.type name
 tables_keep_type first [] s name other = refl
 tables_keep_type first (entries ∷ tables) s name other =

@@ -19,3 +19,4 @@ pub mod EntryLaws
 pub mod LaneLaws
 pub mod MemoryLaws
 pub mod ScaleLaws
+pub mod StepLaws

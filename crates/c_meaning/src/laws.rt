@@ -12,6 +12,7 @@ ghost use Rattle.c_meaning.specs.EntryLaws.{TablesHaveEntries, EntriesAreWords};
 ghost use Rattle.c_meaning.specs.LaneLaws.{LanesCompute, LanesBecome};
 ghost use Rattle.c_meaning.specs.MemoryLaws.{LanesLoad, LanesStore};
 ghost use Rattle.c_meaning.specs.ScaleLaws.{LanesScale};
+ghost use Rattle.c_meaning.specs.StepLaws.{LanesAreSteps};
 ghost use Rattle.c_meaning.specs.ProgramLaws.{ProgramsAreTrees, PhasesAreRead, UnitsCompute, PhasesKnow};
 
 /// The tables of small texts, which compilers are compared with, hold in this meaning.
@@ -52,11 +53,12 @@ pub fn elements()
 {}
 
 /// A lane of an operation: on registers, and on a register and a table, its text computes on residues, and a lane of a
-/// register becomes a value.
+/// register becomes a value. Its statement is a step for each lane.
 pub fn lanes()
     ensures values { LanesCompute }
     ensures products { LanesScale }
     ensures steps { LanesBecome }
+    ensures order { LanesAreSteps }
 {}
 
 /// A lane of a load has the number of its address, and a lane of a store leaves one there.
