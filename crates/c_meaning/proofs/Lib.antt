@@ -4,3 +4,12 @@ pub mod PlaceTexts
 pub mod PlaceRoom
 pub mod PlaceValues
 pub mod FunctionValues
+pub mod ProgramTexts
+pub mod ProgramGrammar
+pub mod ProgramScopes
+pub mod Addresses
+pub mod Entries
+pub mod LaneValues
+pub mod MemoryValues
+pub mod ScaleValues
+pub mod LaneSteps

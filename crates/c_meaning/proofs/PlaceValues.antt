@@ -1,5 +1,5 @@
 -- Places have the values in C that they have.
-use Rattle.std.proofs.Common.{◌≡◌, ℕ, ◌+◌, ◌*◌, ◌/◌, ◌%◌, ◌^◌, ◌<◌, ◌≤◌, ⊎_elim, true, List, length, max, arith, div-le_self, mod-lt, if◌then◌else◌, sym, ap, ap₂, subst, ◌∙◌}
+use Rattle.std.proofs.Common.{◌≡◌, ℕ, ◌+◌, ◌*◌, ◌/◌, ◌%◌, ◌^◌, ◌<◌, ◌≤◌, ◌⊎◌, ⊎_elim, true, List, length, max, arith, div-le_self, mod-lt, if◌then◌else◌, sym, ap, ap₂, subst, ◌∙◌}
 use Rattle.std.specs.Prelude.{pos, nat_lt, nat_le, slice_index}
 use Rattle.std.proofs.lemmas.Bool.{ltb-true, lt-ltb, and_parts}
 use Rattle.icode.specs.Expression.{sum_numbers, parts_numbers, one_numbers}
@@ -11,7 +11,7 @@ use Rattle.c_meaning.specs.Numbers.{Defined, Undefined, ◌>>=◌}
 use Rattle.c_meaning.specs.Scopes.{Scope, Words}
 use Rattle.c_meaning.specs.Expressions.{type_of, value_of, operated}
 use Rattle.c_meaning.specs.PlaceTrees.{processor, loop_variable, times, place_tree, with_parts, part_tree}
-use Rattle.c_meaning.specs.PlaceLaws.{Knows, PlacesHaveValues}
+use Rattle.c_meaning.specs.PlaceLaws.{Knows, AreNamed, PlacesHaveValues}
 use Rattle.c_meaning.proofs.PlaceRoom.{Fits, IsRoomy, AreRoomy, IsRoomyPart, ints_roomy, named_roomy, times_fits, modulo_fits, over_fits, word_fits, loop_fits, outer_open}
 use Rattle.c_meaning.proofs.NumberLaws.{sum_is, product_is, quotient_is, remainder_is, constant_below, widens, widens_right, promotes}
 
@@ -20,13 +20,13 @@ pub record Has (s : Scope) (words : Words) (tree : CExpr) (n : ℕ) : Type 0 whe
   pub value : value_of s words tree ≡ Defined (pos n)
   pub below : n < room (type_of s tree)
 
-constant_has : (s : Scope) (words : Words) (n : ℕ) → n < 2 ^ 32 → Has s words (Constant n Bare) n
+pub constant_has : (s : Scope) (words : Words) (n : ℕ) → n < 2 ^ 32 → Has s words (Constant n Bare) n
 constant_has s words n h =
     let below : n < room (constant_type Bare n) = constant_below n (omega arith) in
     record { value = ap (λ b. if b then Defined (pos n) else Undefined) (lt-ltb n (room (constant_type Bare n)) below); below = below }
 
 -- a sum and a product of trees
-sum_has : (s : Scope) (words : Words) (limit : ℕ) (left right : CExpr) (x y : ℕ) → Has s words left x → Has s words right y →
+pub sum_has : (s : Scope) (words : Words) (limit : ℕ) (left right : CExpr) (x y : ℕ) → Has s words left x → Has s words right y →
     Fits s limit right → x + y < limit → Has s words (Two Plus Tight left right) (x + y)
 sum_has s words limit left right x y h g fits small =
     let below : x + y < room (common (type_of s left) (type_of s right)) =
@@ -38,7 +38,7 @@ sum_has s words limit left right x y h g fits small =
       below = below;
     }
 
-product_has : (s : Scope) (words : Words) (limit : ℕ) (left right : CExpr) (x y : ℕ) → Has s words left x → Has s words right y →
+pub product_has : (s : Scope) (words : Words) (limit : ℕ) (left right : CExpr) (x y : ℕ) → Has s words left x → Has s words right y →
     Fits s limit left → x * y < limit → Has s words (Two Times Tight left right) (x * y)
 product_has s words limit left right x y h g fits small =
     let below : x * y < room (common (type_of s left) (type_of s right)) =
@@ -181,9 +181,15 @@ ints_enough = omega arith
 words_enough : 2 ^ 64 ≤ 2 ^ 64
 words_enough = omega arith
 
-pub places_have_values : PlacesHaveValues
-places_have_values s words vs q place knows within numbers =
+pub place_holds : (s : Scope) (words : Words) (vs : List ℕ) (q : ℕ) (place : PlainExpr) → Knows s vs q →
+    is_sum_within place (length vs) ≡ true →
+    ((sum_numbers place vs q).peak < 2 ^ 31) ⊎ (AreNamed place × ((sum_numbers place vs q).peak < 2 ^ 64)) →
+    Has s words (place_tree place) (sum_numbers place vs q).value
+place_holds s words vs q place knows within numbers =
     ⊎_elim
-    (λ below. (place_has s words vs q knows (2 ^ 31) ints_enough place within (ints_roomy s place) below).value)
-    (λ named. (place_has s words vs q knows (2 ^ 64) words_enough place within (named_roomy s vs q knows place within named.0) named.1).value)
+    (λ below. place_has s words vs q knows (2 ^ 31) ints_enough place within (ints_roomy s place) below)
+    (λ named. place_has s words vs q knows (2 ^ 64) words_enough place within (named_roomy s vs q knows place within named.0) named.1)
     numbers
+
+pub places_have_values : PlacesHaveValues
+places_have_values s words vs q place knows within numbers = (place_holds s words vs q place knows within numbers).value

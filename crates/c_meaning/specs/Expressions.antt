@@ -36,7 +36,9 @@ type_of s (Choice test one other) = common (type_of s one) (type_of s other)
 
 -- an operator's value for numbers of two types
 abbrev pub operated : Operator → CType → CType → ℤ → ℤ → Outcome ℤ
-operated operator a b x y = combined operator (left_type operator a b) (converted (left_type operator a b) x) (converted (right_type operator a b) y)
+operated operator a b x y =
+    combined operator (left_type operator a b) (converted (left_type operator a b) x)
+    (converted (right_type operator a b) y)
 
 -- the one or the other, of which only one is computed, as a number of the type
 abbrev pub chosen : CType → ℤ → Outcome ℤ → Outcome ℤ → Outcome ℤ
@@ -65,7 +67,8 @@ abbrev mutual
 
   pub values_of : Scope → Words → CExprs → Outcome (List ℤ)
   values_of s words Nil = Defined []
-  values_of s words (Cons first rest) = value_of s words first >>= λ x. values_of s words rest >>= λ xs. Defined (x ∷ xs)
+  values_of s words (Cons first rest) =
+      value_of s words first >>= λ x. values_of s words rest >>= λ xs. Defined (x ∷ xs)
 
 -- Functions
 
@@ -86,4 +89,5 @@ returned s f arguments =
     value_of inside no_words f.value >>= λ x. Defined (converted f.result x)
 
 abbrev pub with_function : Function → Scope → Scope
-with_function f s = record s { type = instead f.name f.result s.type; function = instead f.name (returned s f) s.function }
+with_function f s =
+    record s { type = instead f.name f.result s.type; function = instead f.name (returned s f) s.function }

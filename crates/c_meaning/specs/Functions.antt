@@ -51,7 +51,8 @@ mul_function =
       name = word (codes "mul");
       parameters = two_words;
       locals = [];
-      value = Cast Word (Grouped (Two Modulo Spaced (Two Times Spaced (Cast Wide (Named first)) (Named second)) modulus));
+      value =
+          Cast Word (Grouped (Two Modulo Spaced (Two Times Spaced (Cast Wide (Named first)) (Named second)) modulus));
     }
 
 abbrev pub functions : List Function

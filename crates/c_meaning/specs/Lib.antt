@@ -12,3 +12,11 @@ pub mod Procedures
 pub mod PlaceTrees
 pub mod PlaceLaws
 pub mod FunctionLaws
+pub mod ProgramTrees
+pub mod ProgramLaws
+pub mod AddressLaws
+pub mod EntryLaws
+pub mod LaneLaws
+pub mod MemoryLaws
+pub mod ScaleLaws
+pub mod StepLaws

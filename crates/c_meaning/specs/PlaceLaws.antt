@@ -14,7 +14,8 @@ use Rattle.c_meaning.specs.PlaceTrees.{processor, loop_variable, place_tree}
 
 -- the text of a place is that of its tree, and C's grammar reads it so
 abbrev pub PlacesAreTrees : Type 0
-PlacesAreTrees = (place : PlainExpr) → (sum_text place ≡ expr_text (place_tree place)) × (is_read_so (place_tree place) ≡ true)
+PlacesAreTrees =
+    (place : PlainExpr) → (sum_text place ≡ expr_text (place_tree place)) × (is_read_so (place_tree place) ≡ true)
 
 -- the variables are those of the processor and of the open loops, the outermost first, and are words
 pub record Knows (s : Scope) (vs : List ℕ) (q : ℕ) : Type 0 where
@@ -22,7 +23,8 @@ pub record Knows (s : Scope) (vs : List ℕ) (q : ℕ) : Type 0 where
   pub processor_value : s.value processor ≡ Defined (pos q)
   pub processor_below : q < 2 ^ 64
   pub loop_type : (depth : ℕ) → depth < length vs → s.type (loop_variable depth) ≡ Word
-  pub loop_value : (depth : ℕ) → depth < length vs → s.value (loop_variable depth) ≡ Defined (pos (slice_index vs depth))
+  pub loop_value : (depth : ℕ) → depth < length vs →
+      s.value (loop_variable depth) ≡ Defined (pos (slice_index vs depth))
   pub loop_below : (depth : ℕ) → depth < length vs → slice_index vs depth < 2 ^ 64
 
 -- the place names the processor or a loop
@@ -57,8 +59,9 @@ abbrev mutual
   IsDeepNamed (Rem of divisor factor) = (is_named of ≡ true) × AreNamed of
   IsDeepNamed (Quot of divisor factor) = (is_named of ≡ true) × AreNamed of
 
--- A place within its limits has no undefined step in C, and the value that it has. The numbers on the way to it have to be below
--- 2 ^ 31, since a remainder or a quotient of constants is computed in int; where there is none, it is enough that they are words
+-- A place within its limits has no undefined step in C, and the value that it has. The numbers on the way to it have
+-- to be below 2 ^ 31, since a remainder or a quotient of constants is computed in int; where there is none, it is
+-- enough that they are words
 abbrev pub PlacesHaveValues : Type 0
 PlacesHaveValues =
     (s : Scope) (words : Words) (vs : List ℕ) (q : ℕ) (place : PlainExpr) → Knows s vs q →

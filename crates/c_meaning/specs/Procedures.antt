@@ -1,5 +1,5 @@
--- Small procedures with what they leave. checks/c_meaning.py reads the rows of this file, and compares them with what compilers
--- make of the same texts: a row stands on one line
+-- Small procedures with what they leave. checks/c_meaning.py reads the rows of this file, and compares them with what
+-- compilers make of the same texts: a row stands on one line
 use Rattle.std.specs.Prelude.{ℕ, ℤ, pos, List, [], ◌∷◌, Bool, true, false, ◌&&◌, ◌==◌, codes}
 use Rattle.c_meaning.specs.Types.{Int, Word, Bare, ULL}
 use Rattle.c_meaning.specs.Syntax.{Name, word, numbered, Times, Plus, Spaced, CExpr, CExprs, Constant, Named, Element, Call, Two, Nil, Cons, CStmt, CStmts, Assign, Ignore, For, Block, Skip, Then, NewArray, Procedure}
@@ -28,7 +28,9 @@ abbrev pub front : CUnit
 front =
     record {
       comment = codes "small";
-      macros = record { name = word (codes "M"); number = 17; suffix = ULL } ∷ record { name = word (codes "V"); number = 2; suffix = Bare } ∷ [];
+      macros =
+          record { name = word (codes "M"); number = 17; suffix = ULL }
+          ∷ record { name = word (codes "V"); number = 2; suffix = Bare } ∷ [];
       parts = record { name = word (codes "X"); start = 0 } ∷ record { name = word (codes "Y"); start = 4 } ∷ [];
       memory = memory;
       words = 8;
@@ -57,7 +59,13 @@ holds r =
 
 -- the procedure `f` with these arrays and statements
 abbrev pub f : List NewArray → CStmts → Procedure
-f arrays body = record { name = word (codes "f"); parameter = record { type = Word; name = word (codes "q") }; arrays = arrays; body = body }
+f arrays body =
+    record {
+      name = word (codes "f");
+      parameter = record { type = Word; name = word (codes "q") };
+      arrays = arrays;
+      body = body;
+    }
 
 abbrev pub n : ℕ → CExpr
 n number = Constant number Bare

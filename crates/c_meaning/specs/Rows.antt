@@ -1,5 +1,5 @@
--- Small texts with what they mean. checks/c_meaning.py reads the rows of this file, and compares them with what compilers make
--- of the same texts: a row stands on one line
+-- Small texts with what they mean. checks/c_meaning.py reads the rows of this file, and compares them with what
+-- compilers make of the same texts: a row stands on one line
 use Rattle.std.specs.Prelude.{ℕ, ℤ, pos, negsuc, List, [], ◌∷◌, ◌++◌, Bool, ◌&&◌, ◌==◌, true, false, codes, if◌then◌else◌}
 use Rattle.c_meaning.specs.Types.{CType, Short, Int, Half, Long, Word, Wide, Bare, U, ULL, width, is_signed}
 use Rattle.c_meaning.specs.Syntax.{Times, Over, Modulo, Plus, Minus, ShiftLeft, ShiftRight, Less, AtLeast, Equal, And, Or, Tight, Spaced, CExpr, Constant, Grouped, Cast, Complement, Two, Choice, is_read_so, Operator}
@@ -29,7 +29,8 @@ same_value _ _ = false
 abbrev pub holds : Row → Bool
 holds r =
     same_letters (expr_text r.tree) r.text
-    && (is_read_so r.tree && (same_type (type_of nothing r.tree) r.type && same_value (value_of nothing no_words r.tree) r.value))
+    && (is_read_so r.tree
+    && (same_type (type_of nothing r.tree) r.type && same_value (value_of nothing no_words r.tree) r.value))
 
 abbrev pub is : ℤ → Outcome ℤ
 is z = Defined z

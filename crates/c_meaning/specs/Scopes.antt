@@ -33,8 +33,8 @@ no_words name = []
 abbrev pub with_word : Name → ℕ → ℤ → Words → Words
 with_word name place x words = instead name (slice_set (words name) place (Defined x)) words
 
--- A macro whose text is a constant is a variable here. One whose text is `(W + n)` is an array that begins at the element n
--- of W
+-- A macro whose text is a constant is a variable here. One whose text is `(W + n)` is an array that begins at the
+-- element n of W
 pub record Scope : Type 0 where
   -- the type of a variable, of an array's elements, or of what a function returns
   pub type : Name → CType
@@ -61,14 +61,19 @@ with_variable type name x s =
 
 abbrev pub with_array : CType → Name → List ℕ → Scope → Scope
 with_array type name lengths s =
-    record s { type = instead name type s.type; lies = instead name (name, 0) s.lies; lengths = instead name lengths s.lengths }
+    record s {
+      type = instead name type s.type;
+      lies = instead name (name, 0) s.lies;
+      lengths = instead name lengths s.lengths;
+    }
 
 -- with an array that lies in another one
 abbrev pub with_part : CType → Name → Name → ℕ → Scope → Scope
-with_part type name whole start s = record s { type = instead name type s.type; lies = instead name (whole, start) s.lies }
+with_part type name whole start s =
+    record s { type = instead name type s.type; lies = instead name (whole, start) s.lies }
 
--- The word of an array with these lengths at these indices, each of which has to be below its length: the last index counts
--- words, and each one before it rows of the next
+-- The word of an array with these lengths at these indices, each of which has to be below its length: the last index
+-- counts words, and each one before it rows of the next
 abbrev pub word_after : ℕ → List ℕ → List ℤ → Outcome ℕ
 word_after before [] [] = Defined before
 word_after before (n ∷ lengths) (pos i ∷ indices) =

@@ -46,7 +46,7 @@ abbrev mutual
   expr_text (Constant number suffix) = constant_text suffix number
   expr_text (Named name) = name_text name
   expr_text (Element array indices) = name_text array ++ indices_text indices
-  expr_text (Call function arguments) = name_text function ++ codes "(" ++ arguments_text arguments ++ codes ")"
+  expr_text (Call function arguments) = name_text function ++ (codes "(" ++ arguments_text arguments)
   expr_text (Grouped of) = codes "(" ++ expr_text of ++ codes ")"
   expr_text (Cast type of) = codes "(" ++ type_text type ++ codes ")" ++ expr_text of
   expr_text (Complement of) = codes "~" ++ expr_text of
@@ -55,24 +55,26 @@ abbrev mutual
 
   pub indices_text : CExprs → List ℕ
   indices_text Nil = []
-  indices_text (Cons first rest) = codes "[" ++ expr_text first ++ codes "]" ++ indices_text rest
+  indices_text (Cons first rest) = codes "[" ++ expr_text first ++ (codes "]" ++ indices_text rest)
 
+  -- with the parenthesis after them
   pub arguments_text : CExprs → List ℕ
-  arguments_text Nil = []
+  arguments_text Nil = codes ")"
   arguments_text (Cons first rest) = expr_text first ++ more_arguments_text rest
 
   pub more_arguments_text : CExprs → List ℕ
-  more_arguments_text Nil = []
-  more_arguments_text (Cons first rest) = codes ", " ++ expr_text first ++ more_arguments_text rest
+  more_arguments_text Nil = codes ")"
+  more_arguments_text (Cons first rest) = codes ", " ++ (expr_text first ++ more_arguments_text rest)
 
 -- a statement, and statements with a line each
 abbrev mutual
   pub stmt_text : CStmt → List ℕ
-  stmt_text (Assign array indices value) = name_text array ++ indices_text indices ++ codes " = " ++ expr_text value ++ codes ";"
+  stmt_text (Assign array indices value) =
+      name_text array ++ indices_text indices ++ (codes " = " ++ (expr_text value ++ codes ";"))
   stmt_text (Ignore value) = codes "(void)" ++ expr_text value ++ codes ";"
   stmt_text (For type name bound body) =
-      codes "for (" ++ type_text type ++ codes " " ++ name_text name ++ codes " = 0; " ++ name_text name ++ codes " < " ++ expr_text bound
-      ++ codes "; " ++ name_text name ++ codes "++) " ++ stmt_text body
+      codes "for (" ++ type_text type ++ codes " " ++ name_text name ++ codes " = 0; " ++ name_text name ++ codes " < "
+      ++ expr_text bound ++ codes "; " ++ name_text name ++ codes "++) " ++ stmt_text body
   stmt_text (Block body) = codes "{\n" ++ stmts_text body ++ codes "}"
 
   pub stmts_text : CStmts → List ℕ
@@ -91,13 +93,14 @@ local_text l = type_text l.type ++ codes " " ++ name_text l.name ++ codes " = " 
 
 abbrev pub function_text : Function → List ℕ
 function_text f =
-    codes "static " ++ type_text f.result ++ codes " " ++ name_text f.name ++ codes "(" ++ parameters_text f.parameters ++ codes ") { "
-    ++ flat_map local_text f.locals ++ codes "return " ++ expr_text f.value ++ codes "; }\n"
+    codes "static " ++ type_text f.result ++ codes " " ++ name_text f.name ++ codes "("
+    ++ parameters_text f.parameters ++ codes ") { " ++ flat_map local_text f.locals
+    ++ codes "return " ++ expr_text f.value ++ codes "; }\n"
 
 abbrev pub array_text : NewArray → List ℕ
 array_text a = type_text a.type ++ codes " " ++ name_text a.name ++ indices_text a.lengths ++ codes ";\n"
 
 abbrev pub procedure_text : Procedure → List ℕ
 procedure_text p =
-    codes "void " ++ name_text p.name ++ codes "(" ++ parameter_text p.parameter ++ codes ") {\n" ++ flat_map array_text p.arrays
-    ++ stmts_text p.body ++ codes "}\n"
+    codes "void " ++ name_text p.name ++ (codes "(" ++ parameter_text p.parameter ++ codes ") {\n")
+    ++ flat_map array_text p.arrays ++ stmts_text p.body ++ codes "}\n"

@@ -1,5 +1,5 @@
 -- What statements do: the steps of a procedure, one after another.
-use Rattle.std.specs.Prelude.{ℕ, ◌*◌, ℤ, pos, List, [], ◌∷◌, ◌++◌, map, replicate, if◌then◌else◌}
+use Rattle.std.specs.Prelude.{ℕ, ◌*◌, ℤ, pos, negsuc, List, [], ◌∷◌, ◌++◌, map, replicate, if◌then◌else◌}
 use Rattle.std.specs.List.{range_with_len}
 use Rattle.c_meaning.specs.Types.{CType, common}
 use Rattle.c_meaning.specs.Syntax.{Name, CExpr, CExprs, CStmt, CStmts, Assign, Ignore, For, Block, Skip, Then, NewArray, Procedure}
@@ -19,14 +19,14 @@ assigned s array indices value words =
 abbrev pub ignored : Scope → CExpr → Step
 ignored s value words = value_of s words value >>= λ x. Defined words
 
--- How many values a variable of a type has from 0 up to a bound of another one, where its type has the bound too: the
--- comparison converts both
+-- The numbers from 0 up to a bound, which the variable's type has to have
+abbrev pub counted : CType → ℤ → Outcome ℕ
+counted type (pos n) = if fits type (pos n) then Defined n else Undefined
+counted type (negsuc n) = Defined 0
+
+-- how many values a variable of a type has from 0 up to a bound of another type: the comparison converts both
 abbrev pub rounds : CType → CType → ℤ → Outcome ℕ
-rounds type other bound = natural (converted (common type other) bound)
-  where
-    natural : ℤ → Outcome ℕ
-    natural (pos n) = if fits type (pos n) then Defined n else Undefined
-    natural z = Defined 0
+rounds type other bound = counted type (converted (common type other) bound)
 
 abbrev pub all_steps : List (Outcome (List Step)) → Outcome (List Step)
 all_steps [] = Defined []
@@ -44,7 +44,8 @@ abbrev mutual
 
   pub steps_of_all : Scope → CStmts → Outcome (List Step)
   steps_of_all s Skip = Defined []
-  steps_of_all s (Then first rest) = steps_of s first >>= λ steps. steps_of_all s rest >>= λ more. Defined (steps ++ more)
+  steps_of_all s (Then first rest) =
+      steps_of s first >>= λ steps. steps_of_all s rest >>= λ more. Defined (steps ++ more)
 
 -- what steps leave, one after another
 abbrev pub run : List Step → Words → Outcome Words
@@ -67,7 +68,8 @@ abbrev pub with_new : List NewArray → Scope → Words → Outcome (Scope × Wo
 with_new [] s words = Defined (s, words)
 with_new (a ∷ arrays) s words =
     values_of s no_words a.lengths >>= λ xs. lengths_of xs >>= λ lengths.
-    with_new arrays (with_array a.type a.name lengths s) (instead a.name (replicate (product_of lengths) Undefined) words)
+    with_new arrays (with_array a.type a.name lengths s)
+    (instead a.name (replicate (product_of lengths) Undefined) words)
 
 -- the steps of a procedure, called with an argument, and the words at its start
 abbrev pub called : Scope → Procedure → ℤ → Words → Outcome (List Step × Words)

@@ -116,8 +116,8 @@ level (Two operator gap left right) = binding operator
 level (Choice test one other) = 3
 level _ = 15
 
--- The tree is the one that C's grammar gives to its text: an operator's left operand is bound as tightly as the operator, and
--- its right one more tightly. An index, an argument, a group and the middle of a choice may be anything
+-- The tree is the one that C's grammar gives to its text: an operator's left operand is bound as tightly as the
+-- operator, and its right one more tightly. An index, an argument, a group and the middle of a choice may be anything
 abbrev mutual
   pub is_read_so : CExpr → Bool
   is_read_so (Constant number suffix) = true
@@ -128,9 +128,24 @@ abbrev mutual
   is_read_so (Cast type of) = nat_le 14 (level of) && is_read_so of
   is_read_so (Complement of) = nat_le 14 (level of) && is_read_so of
   is_read_so (Two operator gap left right) =
-      (nat_le (binding operator) (level left) && nat_lt (binding operator) (level right)) && (is_read_so left && is_read_so right)
-  is_read_so (Choice test one other) = (nat_lt 3 (level test) && nat_le 3 (level other)) && (is_read_so test && (is_read_so one && is_read_so other))
+      (nat_le (binding operator) (level left) && nat_lt (binding operator) (level right))
+      && (is_read_so left && is_read_so right)
+  is_read_so (Choice test one other) =
+      (nat_lt 3 (level test) && nat_le 3 (level other)) && (is_read_so test && (is_read_so one && is_read_so other))
 
   pub are_read_so : CExprs → Bool
   are_read_so Nil = true
   are_read_so (Cons first rest) = is_read_so first && are_read_so rest
+
+-- so are the expressions of a statement: of an assignment anything, of `(void)` what a cast may be of, and of a loop
+-- what `<` may compare with
+abbrev mutual
+  pub is_stmt_read_so : CStmt → Bool
+  is_stmt_read_so (Assign array indices value) = are_read_so indices && is_read_so value
+  is_stmt_read_so (Ignore value) = nat_le 14 (level value) && is_read_so value
+  is_stmt_read_so (For type name bound body) = nat_lt 10 (level bound) && (is_read_so bound && is_stmt_read_so body)
+  is_stmt_read_so (Block body) = are_stmts_read_so body
+
+  pub are_stmts_read_so : CStmts → Bool
+  are_stmts_read_so Skip = true
+  are_stmts_read_so (Then first rest) = is_stmt_read_so first && are_stmts_read_so rest

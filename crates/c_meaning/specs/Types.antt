@@ -8,9 +8,9 @@ pub data CType : Type 0 where
   Int : CType
   -- uint32_t
   Half : CType
-  -- int64_t
+  -- int64_t, which is long; long long has the same numbers
   Long : CType
-  -- uint64_t
+  -- uint64_t, which is unsigned long; unsigned long long has the same numbers
   Word : CType
   -- unsigned __int128
   Wide : CType
@@ -40,10 +40,12 @@ abbrev pub promoted : CType → CType
 promoted Short = Int
 promoted type = type
 
--- The usual arithmetic conversions (C11, 6.3.1.8), of two promoted types: to the wider one, since it has the greater rank,
--- and a wider signed type has all numbers of a narrower unsigned one; of two types of one width to the unsigned one
+-- The usual arithmetic conversions (C11, 6.3.1.8), of two promoted types: to the wider one, since it has the greater
+-- rank, and a wider signed type has all numbers of a narrower unsigned one; of two types of one width to the unsigned
+-- one
 abbrev pub wider : CType → CType → CType
-wider a b = if nat_lt (width a) (width b) then b else if nat_lt (width b) (width a) then a else if is_signed a then b else a
+wider a b =
+    if nat_lt (width a) (width b) then b else if nat_lt (width b) (width a) then a else if is_signed a then b else a
 
 abbrev pub common : CType → CType → CType
 common a b = wider (promoted a) (promoted b)
@@ -54,8 +56,8 @@ pub data Suffix : Type 0 where
   U : Suffix
   ULL : Suffix
 
--- The type of a decimal constant (C11, 6.4.4.1): the first of a list that has its number. No constant without a suffix is
--- unsigned
+-- The type of a decimal constant (C11, 6.4.4.1): the first of a list that has its number. No constant without a suffix
+-- is unsigned
 abbrev pub constant_type : Suffix → ℕ → CType
 constant_type Bare n = if nat_lt n (room Int) then Int else Long
 constant_type U n = if nat_lt n (room Half) then Half else Word

@@ -1,5 +1,6 @@
 -- Whole texts.
 use Rattle.std.specs.Prelude.{ℕ, pos, List, [], ◌∷◌, ◌++◌, map, length, replicate, codes, decimal, flat_map}
+use Rattle.c_print.specs.CText.{joined_text}
 use Rattle.c_meaning.specs.Types.{Word, Suffix, constant_type}
 use Rattle.c_meaning.specs.Syntax.{Name, Function, Procedure}
 use Rattle.c_meaning.specs.Numbers.{Defined}
@@ -41,31 +42,33 @@ macro_text m = codes "#define " ++ name_text m.name ++ codes " " ++ constant_tex
 
 abbrev pub part_text : Name → Part → List ℕ
 part_text memory p =
-    codes "#define " ++ name_text p.name ++ codes " (" ++ name_text memory ++ codes " + " ++ decimal p.start ++ codes ")\n"
+    codes "#define " ++ name_text p.name ++ codes " (" ++ name_text memory
+    ++ codes " + " ++ decimal p.start ++ codes ")\n"
 
 abbrev pub words_text : Name → ℕ → List ℕ
 words_text memory words = codes "static uint64_t " ++ name_text memory ++ codes "[" ++ decimal words ++ codes "];\n"
 
-abbrev pub entries_text : List ℕ → List ℕ
-entries_text [] = []
-entries_text (c ∷ cs) = decimal c ++ flat_map (λ c. codes "," ++ decimal c) cs
-
 abbrev pub table_text : Table → List ℕ
 table_text t =
     codes "static const uint64_t " ++ name_text t.name ++ codes "[" ++ decimal (length t.entries) ++ codes "] = {"
-    ++ entries_text t.entries ++ codes "};\n"
+    ++ joined_text t.entries ++ codes "};\n"
+
+abbrev pub front_text : CUnit → List ℕ
+front_text u =
+    codes "#include <stdint.h>\n"
+    ++ (flat_map macro_text u.macros ++ (flat_map (part_text u.memory) u.parts ++ words_text u.memory u.words))
 
 abbrev pub unit_text : CUnit → List ℕ
 unit_text u =
-    codes "/* " ++ u.comment ++ codes " */\n#include <stdint.h>\n" ++ flat_map macro_text u.macros
-    ++ flat_map (part_text u.memory) u.parts ++ words_text u.memory u.words ++ flat_map table_text u.tables
-    ++ flat_map function_text u.functions ++ flat_map procedure_text u.procedures
+    codes "/* " ++ u.comment ++ codes " */\n" ++ front_text u ++ flat_map table_text u.tables
+    ++ (flat_map function_text u.functions ++ flat_map procedure_text u.procedures)
 
 -- What its names stand for, with the later ones first
 
 abbrev pub with_macros : List Macro → Scope → Scope
 with_macros [] s = s
-with_macros (m ∷ macros) s = with_macros macros (with_variable (constant_type m.suffix m.number) m.name (pos m.number) s)
+with_macros (m ∷ macros) s =
+    with_macros macros (with_variable (constant_type m.suffix m.number) m.name (pos m.number) s)
 
 abbrev pub with_parts : Name → List Part → Scope → Scope
 with_parts memory [] s = s
@@ -82,7 +85,8 @@ with_functions (f ∷ functions) s = with_functions functions (with_function f s
 abbrev pub scope_of : CUnit → Scope
 scope_of u =
     with_functions u.functions
-    (with_tables u.tables (with_array Word u.memory (u.words ∷ []) (with_parts u.memory u.parts (with_macros u.macros nothing))))
+    (with_tables u.tables
+    (with_array Word u.memory (u.words ∷ []) (with_parts u.memory u.parts (with_macros u.macros nothing))))
 
 -- Its words before anything runs
 

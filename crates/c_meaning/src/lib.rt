@@ -3,4 +3,4 @@
 
 mod laws;
 
-pub use laws::{functions, places, small_texts};
+pub use laws::{elements, functions, lanes, memory, places, programs, small_texts};
