@@ -1,4 +1,5 @@
 pub mod Bounds
+pub mod Entries
 pub mod Exact
 pub mod Factors
 pub mod Inverses

@@ -5,11 +5,12 @@ use Rattle.std.specs.Prelude.{slice_index_or}
 use Rattle.std.specs.List.{range_with_len}
 use Rattle.std.proofs.Math.ListN.{get_or-map}
 use Rattle.std.proofs.lemmas.List.{length-replicate}
-use Rattle.std.proofs.lemmas.List.Elements.{All-cons, All-head, All-tail, All-nil}
+use Rattle.std.proofs.lemmas.List.Elements.{All-head}
 use Rattle.icode.specs.Actions.{Step, StepFits, PlainFits, step_of, steps_of_stmt, steps_of_body}
 use Rattle.icode.specs.Machine.{results}
 use Rattle.icode.specs.Plain.{PlainStmt, PlainBody, PlainProgram}
 use Rattle.icode.specs.Plain as plain
+use Rattle.nests.proofs.Listed.{all-left, all-right}
 use Rattle.double_code.specs.DoubleMachine.{DoubleAction}
 use Rattle.double_code.specs.DoubleProgram.{NoStmts, PlainDoubleProgram, double_actions_of_stmt}
 use Rattle.double_code.specs.DoubleProgram.{double_actions_of_body, double_code}
@@ -25,15 +26,6 @@ use Rattle.double_code.proofs.Statements.{code_under, none_past, lists_have}
 low_of_all : (m : ℕ) (xs : List ℕ) → All (λ v. v < m) xs → AllLow m xs
 low_of_all m [] all = tt
 low_of_all m (x ∷ xs) all = (all 0 x (omega arith), low_of_all m xs (λ k d lt. all (suc k) d (omega arith)))
-
-all-left : {X : Type 0} (P : X → Type 0) (xs ys : List X) → All P (xs ++ ys) → All P xs
-all-left P [] ys h = All-nil P
-all-left P (x ∷ xs) ys h =
-    All-cons P x xs (All-head P x (xs ++ ys) h) (all-left P xs ys (All-tail P x (xs ++ ys) h))
-
-all-right : {X : Type 0} (P : X → Type 0) (xs ys : List X) → All P (xs ++ ys) → All P ys
-all-right P [] ys h = h
-all-right P (x ∷ xs) ys h = all-right P xs ys (All-tail P x (xs ++ ys) h)
 
 ends_weaker : (s : Scale) (b c d : ℕ → ℕ) (fs : List DoubleAction) → ((r : ℕ) → c r ≤ d r) → AreExact s b fs c →
     AreExact s b fs d

@@ -7,3 +7,4 @@ pub mod Products
 pub mod Reductions
 pub mod Rounding
 pub mod Sums
+pub mod Views

@@ -1,4 +1,6 @@
-//! Words that are doubles: whole numbers up to 2^53 that stand for residues.
+//! Words that are doubles: whole numbers up to 2^53 that stand for residues, and loop code on them.
 #![tactic(auto)]
 
 pub mod laws;
+pub mod limits;
+pub mod tables;
