@@ -7,7 +7,10 @@ use Rattle.std.proofs.Math.ListN.{get_or-map}
 use Rattle.std.proofs.lemmas.List.{length-replicate}
 use Rattle.std.proofs.lemmas.List.Elements.{All-head}
 use Rattle.icode.specs.Actions.{Step, StepFits, PlainFits, step_of, steps_of_stmt, steps_of_body}
-use Rattle.icode.specs.Machine.{results}
+use Rattle.icode.specs.Machine.{results, words_at, padded}
+use Rattle.icode.specs.Actions.{plain_code}
+use Rattle.icode.proofs.Lists.{code_is}
+use Rattle.icode.proofs.Runs.{memory_of_runs}
 use Rattle.icode.specs.Plain.{PlainStmt, PlainBody, PlainProgram}
 use Rattle.icode.specs.Plain as plain
 use Rattle.nests.proofs.Listed.{all-left, all-right}
@@ -16,7 +19,7 @@ use Rattle.double_code.specs.DoubleProgram.{NoStmts, PlainDoubleProgram, double_
 use Rattle.double_code.specs.DoubleProgram.{double_actions_of_body, double_code}
 use Rattle.double_code.specs.Doubled.{bound_at, loosest, header_of, noted, doubled_stmt, doubled_body}
 use Rattle.double_code.specs.Doubled.{doubled_phase, doubled}
-use Rattle.double_code.specs.Laws.{DoubledIsSame}
+use Rattle.double_code.specs.Laws.{DoubledIsSame, DoubledOrderIsFree}
 use Rattle.double_code.specs.Reductions.{limit_of}
 use Rattle.double_code.proofs.Exact.{Scale, IsSound, AreExact, from_weaker, exact-append}
 use Rattle.double_code.proofs.Operations.{scale, do_is_exact}
@@ -175,3 +178,13 @@ doubled_is_same p fits some below line x turns low =
     results_are (double_code (doubled p)) (exact_code p (record { some = some; below = below }) fits) x turns some line
     (low_of_all p.modulus x low)
     ∙ ap (λ c. map pos (results c x turns)) (code_under p)
+
+-- so the order of turns is as free as the program's
+pub doubled_order_is_free : DoubledOrderIsFree
+doubled_order_is_free p fits some below line apart x turns low =
+    let code = plain_code p in
+    let is = code_is p in
+    doubled_is_same p fits some below line x turns low
+    ∙ ap (λ memory. map pos (words_at p.size memory (padded code)))
+    (memory_of_runs code is apart x turns ∙ sym (memory_of_runs code is apart x []))
+    ∙ sym (doubled_is_same p fits some below line x [] low)
