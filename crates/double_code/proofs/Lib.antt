@@ -1,4 +1,5 @@
 pub mod Bounds
+pub mod Emitting
 pub mod Entries
 pub mod Exact
 pub mod Factors

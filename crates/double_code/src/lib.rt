@@ -3,4 +3,7 @@
 
 pub mod laws;
 pub mod limits;
+mod note;
+pub mod program;
+mod settle;
 pub mod tables;
