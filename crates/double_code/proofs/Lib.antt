@@ -4,6 +4,8 @@ pub mod Entries
 pub mod Exact
 pub mod Factors
 pub mod Inverses
+pub mod Leaving
+pub mod Making
 pub mod Modular
 pub mod Nearest
 pub mod Numbers

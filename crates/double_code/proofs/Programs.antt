@@ -35,7 +35,7 @@ ends_weaker : (s : Scale) (b c d : ℕ → ℕ) (fs : List DoubleAction) → ((r
 ends_weaker s b c d [] le are = λ r. let x = are r in let y = le r in omega (arith, x, y)
 ends_weaker s b c d (f ∷ fs) le are = (are.0, are.1, ends_weaker s are.0 c d fs le are.2)
 
-loosest_is : (m regs r : ℕ) → bound_at m (replicate regs (limit_of m)) r ≡ limit_of m
+pub loosest_is : (m regs r : ℕ) → bound_at m (replicate regs (limit_of m)) r ≡ limit_of m
 loosest_is m (suc regs) (suc r) = loosest_is m regs r
 loosest_is m _ _ = refl
 

@@ -88,9 +88,11 @@ noted m lanes (Load r array place) bounds =
 noted m lanes (Store array place r) bounds = store_noted m array r bounds
 noted m lanes (Zero r) bounds = record { note = no_note; bounds = slice_set bounds r 0 }
 noted m lanes (Add r x y) bounds =
-    let s = settled_to m 2 x y (limit_of m) bounds in put_after s r (bound_at m s.bounds x + bound_at m s.bounds y)
+    let s = settled_to m 2 x y (limit_of m) bounds in
+    put_after s r (min (limit_of m) (bound_at m s.bounds x + bound_at m s.bounds y))
 noted m lanes (Sub r x y) bounds =
-    let s = settled_to m 2 x y (limit_of m) bounds in put_after s r (bound_at m s.bounds x + bound_at m s.bounds y)
+    let s = settled_to m 2 x y (limit_of m) bounds in
+    put_after s r (min (limit_of m) (bound_at m s.bounds x + bound_at m s.bounds y))
 noted m lanes (Neg r x) bounds = record { note = no_note; bounds = slice_set bounds r (bound_at m bounds x) }
 noted m lanes (MulConst r x factor) bounds = product_noted m r x (centred m factor) bounds
 noted m lanes (MulTable r x table place step) bounds = product_noted m r x (pos 0) bounds

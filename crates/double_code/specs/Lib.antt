@@ -7,6 +7,7 @@ pub mod Laws
 pub mod Products
 pub mod Reductions
 pub mod Rounding
+pub mod Same
 pub mod Setting
 pub mod Sums
 pub mod Views

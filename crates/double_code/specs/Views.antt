@@ -1,5 +1,5 @@
 -- Programs on doubles by their views as plain data.
-use Rattle.std.specs.Prelude.{ℕ, ℤ, List, [], ◌∷◌, map, Vec}
+use Rattle.std.specs.Prelude.{ℤ, List, [], ◌∷◌, map, Vec}
 use Rattle.std.proofs.Common.{Global}
 use Rattle.icode.specs.Plain.{plain_op, plain_tables}
 use Rattle.double_code.specs.declared.program.Note.{Note}

@@ -1,5 +1,5 @@
-// What numbers are at most, whatever their sign. Numbers up to 2^53 are doubles; a reduction finds the multiple of the modulus that it
-// takes off, and so does a product, where the quotient is below 2^51.
+// What numbers are at most, whatever their sign. Numbers up to 2^53 are doubles; a reduction finds the multiple of
+// the modulus that it takes off, and so does a product, where the quotient is below 2^51.
 
 ghost use Rattle.std.specs.Prelude.{◌≡◌, ◌+◌, ◌^◌, ◌<◌, ◌≤◌, slice_set};
 ghost use Rattle.double_code.specs.Doubled.{bound_at, greatest_bound, most_of, reduced_bound, array_bound};

@@ -1,9 +1,10 @@
-// The note of an operation on doubles. A number stands for its residue up to a multiple of the modulus, of either sign, so differences
-// need nothing beside them. A product takes off the nearest multiple of the modulus, which is found by the inverse of the modulus as
-// a double; what the rounding of the product lost is known exactly, by a fused operation, and is added again. Only where a sum or a
-// factor would pass what doubles hold are registers reduced, before the operation.
+// The note of an operation on doubles. A number stands for its residue up to a multiple of the modulus, of either
+// sign, so differences need nothing beside them. A product takes off the nearest multiple of the modulus, which is
+// found by the inverse of the modulus as a double; what the rounding of the product lost is known exactly, by a
+// fused operation, and is added again. Only where a sum or a factor would pass what doubles hold are registers
+// reduced, before the operation.
 
-ghost use Rattle.std.specs.Prelude.{◌≡◌, ℕ, ◌+◌, ◌*◌, ◌^◌, ◌<◌, ◌≤◌, replicate};
+ghost use Rattle.std.specs.Prelude.{◌≡◌, ℕ, ◌+◌, ◌*◌, ◌^◌, ◌<◌, ◌≤◌, min, replicate};
 ghost use Rattle.std.specs.Prelude.{slice_set, IfOk, OnOk, IsTrue, pos, ℤ};
 ghost use Rattle.icode.specs.Limits.{is_op_within};
 ghost use Rattle.icode.specs.Machine.{with_words};
@@ -57,12 +58,13 @@ fn has_residues(array: Array) -> bool
     }
 }
 
-/// What two registers' bounds add up to.
+/// What two registers' bounds add up to, within the limit.
 fn sum_of(modulus: u64, bounds: &[u64], left: u64, right: u64) -> u64
     requires sane { (r : ℕ) → bound_at modulus bounds.now r ≤ limit_of modulus }
-    ensures { result ≡ bound_at modulus bounds.now left + bound_at modulus bounds.now right }
+    ensures { result ≡ min (limit_of modulus)
+        (bound_at modulus bounds.now left + bound_at modulus bounds.now right) }
 {
-    bound_of(modulus, bounds, left) + bound_of(modulus, bounds, right)
+    limit_of(modulus).min(bound_of(modulus, bounds, left) + bound_of(modulus, bounds, right))
 }
 
 /// The note of an operation that needs nothing beside it: its register gets the bound.

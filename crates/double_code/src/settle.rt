@@ -1,5 +1,5 @@
-// Reductions before an operation. A reduction takes a number to half of the modulus, or one more, so two of them make room for every
-// sum and for every product.
+// Reductions before an operation. A reduction takes a number to half of the modulus, or one more, so two of them
+// make room for every sum and for every product.
 
 ghost use Rattle.std.specs.Prelude.{◌≡◌, ◌+◌, ◌^◌, ◌<◌, IfOk, OnOk};
 ghost use Rattle.double_code.specs.Doubled.{greater};

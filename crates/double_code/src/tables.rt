@@ -1,5 +1,5 @@
-// Factors of products. A residue c stands for itself and for c - m; the factor is the smaller of the two, whatever its sign, so that a
-// product of a number below 2^52 has a quotient below 2^51.
+// Factors of products. A residue c stands for itself and for c - m; the factor is the smaller of the two, whatever
+// its sign, so that a product of a number below 2^52 has a quotient below 2^51.
 
 ghost use Rattle.std.specs.Prelude.{◌≡◌, ◌^◌, ◌<◌, map, All, IfOk, IsTrue};
 ghost use Rattle.icode.specs.Limits.{are_tables_within};

@@ -1,4 +1,4 @@
-use Rattle.std.proofs.Common.{◌≡◌, ◌-◌, ℕ}
+use Rattle.std.proofs.Common.{◌≡◌, ◌-◌}
 use Rattle.double_code.specs.Doubled.{settled_to}
 use Rattle.double_code.specs.Setting.{AreBoundsWithin, settled_in}
 use Rattle.double_code.proofs.Emitting.{behind}
