@@ -1,7 +1,11 @@
 pub mod Bounds
+pub mod Emitting
+pub mod Entries
 pub mod Exact
 pub mod Factors
 pub mod Inverses
+pub mod Leaving
+pub mod Making
 pub mod Modular
 pub mod Nearest
 pub mod Numbers

@@ -3,6 +3,7 @@ use Rattle.std.proofs.Common.{◌≡◌, ℕ, zero, suc, ◌+◌, ◌*◌, ◌^�
 use Rattle.std.proofs.Common.{length, map, replicate, refl, sym, ap, ◌∙◌, subst, arith, ⊎_elim, mul-le-mul_right, ℤ}
 use Rattle.std.proofs.Common.{pos, unsigned_abs, true, false}
 use Rattle.std.specs.Prelude.{nat_le, ◌-ℤ◌, slice_index, slice_index_or, slice_set}
+use Rattle.std.proofs.Common.{min}
 use Rattle.std.specs.List.{range_with_len}
 use Rattle.std.proofs.Math.Nat.{le-max_left, le-max_right, max-le}
 use Rattle.std.proofs.lemmas.Bool.{cases_lt, cond-true, le-leb}
@@ -60,7 +61,7 @@ tile_new m (suc n) bounds r v q le from to =
     (λ (later : r + 1 ≤ q). tile_new m n (slice_set bounds r v) (r + 1) v q le later (omega arith))
     (cases_lt q (r + 1))
 
-tile_sane : (m n : ℕ) (bounds : List ℕ) (r v : ℕ) → v ≤ limit_of m → ((q : ℕ) → bound_at m bounds q ≤ limit_of m) →
+pub tile_sane : (m n : ℕ) (bounds : List ℕ) (r v : ℕ) → v ≤ limit_of m → ((q : ℕ) → bound_at m bounds q ≤ limit_of m) →
     (q : ℕ) → bound_at m (with_words bounds r (replicate n v)) q ≤ limit_of m
 tile_sane m zero bounds r v le sane = sane
 tile_sane m (suc n) bounds r v le sane =
@@ -82,7 +83,7 @@ greatest_is m bounds (suc n) x (suc l) lt =
     let b = le-max_right (bound_at m bounds x) (greatest_bound m bounds n (x + 1)) in
     subst (λ k. bound_at m bounds k ≤ greatest_bound m bounds (suc n) x) (sym place) (omega (arith, a, b))
 
-greatest_sane : (m : ℕ) (bounds : List ℕ) (n x : ℕ) → ((q : ℕ) → bound_at m bounds q ≤ limit_of m) →
+pub greatest_sane : (m : ℕ) (bounds : List ℕ) (n x : ℕ) → ((q : ℕ) → bound_at m bounds q ≤ limit_of m) →
     greatest_bound m bounds n x ≤ limit_of m
 greatest_sane m bounds zero x sane = omega arith
 greatest_sane m bounds (suc n) x sane = max-le (sane x) (greatest_sane m bounds n (x + 1) sane)
@@ -290,14 +291,16 @@ module _ (p : PlainProgram) (sound : IsSound (scale p)) where
       let after = settled_to m 2 x y (limit_of m) bounds in
       let b = bound_at m after.bounds in
       let done = settles_to x y (limit_of m) bounds enough_limit fits.registers.1 fits.registers.2 long sane in
-      put_done bounds x y (limit_of m) after (actions.Add r x y) [] (b x + b y) (b x + b y) long done (λ t. refl)
-      (λ t. refl) (add_put s b r x y sound done.small) (omega arith) done.small
+      put_done bounds x y (limit_of m) after (actions.Add r x y) [] (b x + b y)
+      (min (limit_of m) (b x + b y)) long done (λ t. refl)
+      (λ t. refl) (add_put s b r x y sound done.small) (let a = done.small in omega (arith, a)) (omega arith)
   do_is_exact (Sub r x y) bounds vs q long sane fits =
       let after = settled_to m 2 x y (limit_of m) bounds in
       let b = bound_at m after.bounds in
       let done = settles_to x y (limit_of m) bounds enough_limit fits.registers.1 fits.registers.2 long sane in
-      put_done bounds x y (limit_of m) after (actions.Sub r x y) [] (b x + b y) (b x + b y) long done (λ t. refl)
-      (λ t. refl) (sub_put s b r x y sound done.small) (omega arith) done.small
+      put_done bounds x y (limit_of m) after (actions.Sub r x y) [] (b x + b y)
+      (min (limit_of m) (b x + b y)) long done (λ t. refl)
+      (λ t. refl) (sub_put s b r x y sound done.small) (let a = done.small in omega (arith, a)) (omega arith)
   do_is_exact (Neg r x) bounds vs q long sane fits =
       plain_done bounds (actions.Neg r x) (bound_at m bounds x) long sane (λ t. refl) (λ t. refl)
       (neg_put s (bound_at m bounds) r x sound) (sane x)

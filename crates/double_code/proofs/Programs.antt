@@ -5,17 +5,21 @@ use Rattle.std.specs.Prelude.{slice_index_or}
 use Rattle.std.specs.List.{range_with_len}
 use Rattle.std.proofs.Math.ListN.{get_or-map}
 use Rattle.std.proofs.lemmas.List.{length-replicate}
-use Rattle.std.proofs.lemmas.List.Elements.{All-cons, All-head, All-tail, All-nil}
+use Rattle.std.proofs.lemmas.List.Elements.{All-head}
 use Rattle.icode.specs.Actions.{Step, StepFits, PlainFits, step_of, steps_of_stmt, steps_of_body}
-use Rattle.icode.specs.Machine.{results}
+use Rattle.icode.specs.Machine.{results, words_at, padded}
+use Rattle.icode.specs.Actions.{plain_code}
+use Rattle.icode.proofs.Lists.{code_is}
+use Rattle.icode.proofs.Runs.{memory_of_runs}
 use Rattle.icode.specs.Plain.{PlainStmt, PlainBody, PlainProgram}
 use Rattle.icode.specs.Plain as plain
+use Rattle.nests.proofs.Listed.{all-left, all-right}
 use Rattle.double_code.specs.DoubleMachine.{DoubleAction}
 use Rattle.double_code.specs.DoubleProgram.{NoStmts, PlainDoubleProgram, double_actions_of_stmt}
 use Rattle.double_code.specs.DoubleProgram.{double_actions_of_body, double_code}
 use Rattle.double_code.specs.Doubled.{bound_at, loosest, header_of, noted, doubled_stmt, doubled_body}
 use Rattle.double_code.specs.Doubled.{doubled_phase, doubled}
-use Rattle.double_code.specs.Laws.{DoubledIsSame}
+use Rattle.double_code.specs.Laws.{DoubledIsSame, DoubledOrderIsFree}
 use Rattle.double_code.specs.Reductions.{limit_of}
 use Rattle.double_code.proofs.Exact.{Scale, IsSound, AreExact, from_weaker, exact-append}
 use Rattle.double_code.proofs.Operations.{scale, do_is_exact}
@@ -26,21 +30,12 @@ low_of_all : (m : ℕ) (xs : List ℕ) → All (λ v. v < m) xs → AllLow m xs
 low_of_all m [] all = tt
 low_of_all m (x ∷ xs) all = (all 0 x (omega arith), low_of_all m xs (λ k d lt. all (suc k) d (omega arith)))
 
-all-left : {X : Type 0} (P : X → Type 0) (xs ys : List X) → All P (xs ++ ys) → All P xs
-all-left P [] ys h = All-nil P
-all-left P (x ∷ xs) ys h =
-    All-cons P x xs (All-head P x (xs ++ ys) h) (all-left P xs ys (All-tail P x (xs ++ ys) h))
-
-all-right : {X : Type 0} (P : X → Type 0) (xs ys : List X) → All P (xs ++ ys) → All P ys
-all-right P [] ys h = h
-all-right P (x ∷ xs) ys h = all-right P xs ys (All-tail P x (xs ++ ys) h)
-
 ends_weaker : (s : Scale) (b c d : ℕ → ℕ) (fs : List DoubleAction) → ((r : ℕ) → c r ≤ d r) → AreExact s b fs c →
     AreExact s b fs d
 ends_weaker s b c d [] le are = λ r. let x = are r in let y = le r in omega (arith, x, y)
 ends_weaker s b c d (f ∷ fs) le are = (are.0, are.1, ends_weaker s are.0 c d fs le are.2)
 
-loosest_is : (m regs r : ℕ) → bound_at m (replicate regs (limit_of m)) r ≡ limit_of m
+pub loosest_is : (m regs r : ℕ) → bound_at m (replicate regs (limit_of m)) r ≡ limit_of m
 loosest_is m (suc regs) (suc r) = loosest_is m regs r
 loosest_is m _ _ = refl
 
@@ -183,3 +178,13 @@ doubled_is_same p fits some below line x turns low =
     results_are (double_code (doubled p)) (exact_code p (record { some = some; below = below }) fits) x turns some line
     (low_of_all p.modulus x low)
     ∙ ap (λ c. map pos (results c x turns)) (code_under p)
+
+-- so the order of turns is as free as the program's
+pub doubled_order_is_free : DoubledOrderIsFree
+doubled_order_is_free p fits some below line apart x turns low =
+    let code = plain_code p in
+    let is = code_is p in
+    doubled_is_same p fits some below line x turns low
+    ∙ ap (λ memory. map pos (words_at p.size memory (padded code)))
+    (memory_of_runs code is apart x turns ∙ sym (memory_of_runs code is apart x []))
+    ∙ sym (doubled_is_same p fits some below line x [] low)

@@ -74,19 +74,25 @@ product_noted m r x factor bounds =
       bounds = slice_set s.bounds r (product_bound m (bound_at m s.bounds x));
     }
 
+-- a store, whose register is reduced where it may be too great for the array
+abbrev pub store_noted : ℕ → Array → ℕ → List ℕ → Noted
+store_noted m array r bounds =
+    if has_residues array then record { note = no_note; bounds = bounds }
+    else let s = settled_to m 2 r r (2 * array_bound m array) bounds in
+    record { note = record { before = s.before; factor = pos 0 }; bounds = s.bounds }
+
 -- the note of an operation, where the registers have these bounds, and the bounds after it
 abbrev pub noted : ℕ → ℕ → PlainOp → List ℕ → Noted
 noted m lanes (Load r array place) bounds =
     record { note = no_note; bounds = slice_set bounds r (array_bound m array) }
-noted m lanes (Store array place r) bounds =
-    if has_residues array then record { note = no_note; bounds = bounds }
-    else let s = settled_to m 2 r r (2 * array_bound m array) bounds in
-    record { note = record { before = s.before; factor = pos 0 }; bounds = s.bounds }
+noted m lanes (Store array place r) bounds = store_noted m array r bounds
 noted m lanes (Zero r) bounds = record { note = no_note; bounds = slice_set bounds r 0 }
 noted m lanes (Add r x y) bounds =
-    let s = settled_to m 2 x y (limit_of m) bounds in put_after s r (bound_at m s.bounds x + bound_at m s.bounds y)
+    let s = settled_to m 2 x y (limit_of m) bounds in
+    put_after s r (min (limit_of m) (bound_at m s.bounds x + bound_at m s.bounds y))
 noted m lanes (Sub r x y) bounds =
-    let s = settled_to m 2 x y (limit_of m) bounds in put_after s r (bound_at m s.bounds x + bound_at m s.bounds y)
+    let s = settled_to m 2 x y (limit_of m) bounds in
+    put_after s r (min (limit_of m) (bound_at m s.bounds x + bound_at m s.bounds y))
 noted m lanes (Neg r x) bounds = record { note = no_note; bounds = slice_set bounds r (bound_at m bounds x) }
 noted m lanes (MulConst r x factor) bounds = product_noted m r x (centred m factor) bounds
 noted m lanes (MulTable r x table place step) bounds = product_noted m r x (pos 0) bounds

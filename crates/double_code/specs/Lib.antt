@@ -2,8 +2,12 @@ pub mod DoubleMachine
 pub mod DoubleProgram
 pub mod Doubled
 pub mod Factors
+pub mod Kinds
 pub mod Laws
 pub mod Products
 pub mod Reductions
 pub mod Rounding
+pub mod Same
+pub mod Setting
 pub mod Sums
+pub mod Views

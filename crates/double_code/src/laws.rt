@@ -1,7 +1,7 @@
 // The laws of words that are doubles.
 
 ghost use Rattle.double_code.specs.Factors.{FactorsAreCentred};
-ghost use Rattle.double_code.specs.Laws.{DoubledIsSame};
+ghost use Rattle.double_code.specs.Laws.{DoubledIsSame, DoubledOrderIsFree, DoubledActsTheSame};
 ghost use Rattle.double_code.specs.Products.{InversesAreThere, DoubleProducts};
 ghost use Rattle.double_code.specs.Reductions.{DoubleReductions};
 ghost use Rattle.double_code.specs.Sums.{DoubleSums};
@@ -34,4 +34,14 @@ pub fn double_reductions()
 /// A program on doubles leaves the residues that the program leaves, whatever the order of turns.
 pub fn doubled_is_same()
     ensures { DoubledIsSame }
+{}
+
+/// Where no processor touches a line that another writes, the order of turns is free.
+pub fn doubled_order_is_free()
+    ensures { DoubledOrderIsFree }
+{}
+
+/// A program on doubles does the actions of the program, at the same places.
+pub fn doubled_acts_the_same()
+    ensures { DoubledActsTheSame }
 {}
