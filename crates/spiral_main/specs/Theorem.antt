@@ -6,7 +6,7 @@
 --   IsRightLine             the first line of the input spells a request; roots are right, and processors that the words
 --                           name are there; the tree is the first of the request's cheapest, and within its budget
 --   HasWholeVectors         whole vectors of numbers stand behind that line; request_vectors are these
---   asked_of r x            the matrix that r asks for, times x; IsVector r x: as many residues as r has places
+--   asked_of r x            the matrix that r asks for, times x; IsVector m n x: x is n residues modulo m
 --   plain_code p            what a machine runs for p: for each phase and processor a list of actions
 --   results code x turns    what is left in Y for x, where all else begins at 0, and processors act in the order of these turns
 --                           and then finish
