@@ -1,6 +1,7 @@
 #!/usr/bin/env python3
 """How `spiral-fast` refuses: each status, each option and each kind of name, with its line and without output. And what it says of a text
-that stays at one lane, with the line of the listing. And that a name it takes compiles: each word that stands in its texts, and words of C, are either refused or names of functions that GCC and Clang take.
+that stays at one lane, with the line of the listing. And that a name it takes compiles: each word that stands in its texts, and words of C,
+are either refused or names of functions that GCC and Clang take.
 
     checks/fast_refusals.py
 """
@@ -65,8 +66,8 @@ LANED = {
     "many registers": program(17, *LOOP, size=8, registers=349526),
     # other statements come first where they stand: a table has a line, and a phase has two
     "phases": program(17, *LOOP, "end", "phase", *LOOP, "ld r0 X[0]", "st Y[0] r0", size=8).replace("phase", "table 0 values 1\nphase", 1),
-    # loops in the other order, and registers of another order, have the same lines
-    "another's": program(17, "for v0 4", "for v1 4", "ld r1 X[0+v0*1+v1*4]", "st A[0+v0*1+v1*4] r1", "end", "end", "ld r0 X[0]", "st Y[0] r0", size=16),
+    # registers that are numbered anew leave the lines as they are
+    "another's": program(17, "for v0 8", "ld r1 X[0+v0*1]", "st A[0+v0*1] r1", "end", "for v0 9", "ld r1 X[0+v0*1]", "st Y[0+v0*1] r1", "end", size=9),
     # what can be put on lanes, and what has lanes of its own
     "a loop": program(17, *LOOP, size=8),
     "two lanes": program(17, "ld r0 X[0]", "st Y[0] r0").replace("lanes 1", "lanes 2"),
@@ -81,7 +82,7 @@ AT_ONE = (
     ("places", 0, "one lane: the loop at line 7 loads or stores words that do not stand side by side"),
     ("many registers", 0, "one lane: more than 349525 registers"),
     ("phases", 0, "one lane: line 14 stands in no loop"),
-    ("another's", 0, "one lane: line 9 stands in no loop"),
+    ("another's", 0, "one lane: the loop at line 7 has rounds that are no multiple of the lanes"),
 )
 # Words, listing, status and line.
 ROWS = (
