@@ -11,6 +11,7 @@ pub mod LoadsMade
 pub mod LoadsTold
 pub mod Made
 pub mod Nests
+pub mod NoObstacle
 pub mod OneLane
 pub mod Orders
 pub mod RoundsAre

@@ -5,3 +5,4 @@ pub mod Layers
 pub mod Loads
 pub mod Rows
 pub mod Views
+pub mod Obstacles

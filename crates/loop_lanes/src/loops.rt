@@ -14,11 +14,12 @@ use nests::{are_fresh, innermost, push_counts};
 use std::alloc::Global;
 
 /// How often a round stores at most.
-const MOST_STORES: u64 = 256;
+pub(crate) const MOST_STORES: u64 = 256;
 
 // ---- loops one in the other
 
-fn last_count(count: u64, counts: &[u64]) -> u64
+/// The count of the innermost of loops, of which the outermost has this one.
+pub(crate) fn last_count(count: u64, counts: &[u64]) -> u64
     ensures { result ≡ last_count count counts.now }
 {
     let Some((inner, rest)) = counts.split_first() else {
@@ -79,8 +80,8 @@ fn straight(alloc: Global, ops: &[Op]) -> Result<Vec<Stmt>, NoMemory>
     Ok(stmts)
 }
 
-// The round of lanes, if it can be done so.
-fn laned_round(
+/// The round of lanes, if it can be done so.
+pub(crate) fn laned_round(
     alloc: Global,
     group: Group,
     regs: u64,
