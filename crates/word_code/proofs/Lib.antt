@@ -23,3 +23,4 @@ pub mod Flow
 pub mod Bare
 pub mod Numbers
 pub mod FreshWords
+pub mod Products

@@ -14,3 +14,4 @@ pub mod Bare
 pub mod FreshWords
 pub mod Bytes
 pub mod Input
+pub mod Times
