@@ -15,7 +15,7 @@ import tempfile
 TOP = os.path.dirname(os.path.dirname(os.path.abspath(__file__)))
 os.environ["PATH"] = f"{TOP}/bin{os.pathsep}{os.environ['PATH']}"
 USAGE = (
-    "usage: spiral_fast [--words 16|32|52|64] [--lanes 2|4|8|16] [--name NAME [--header]] < LISTING > TEXT "
+    "usage: spiral_fast [--words 16|32|52|64] [--lanes 2|4|8|16] [--name NAME [--times] [--header]] < LISTING > TEXT "
     "(reads a listing, writes C)"
 )
 
