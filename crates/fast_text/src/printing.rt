@@ -15,9 +15,7 @@ use crate::first_values::{put_callers_first_values, put_own_first_values};
 use crate::form::Form;
 use crate::front::{put_arrays, put_functions, put_sizes};
 use crate::function::{put_functions_to_link, static_phase};
-use crate::header::{
-    in_capitals, put_counts, put_guard, put_lengths, put_line_bytes, put_linked, word_type,
-};
+use crate::header::{in_capitals, put_counts, put_guard, put_lengths, put_line_bytes, put_linked};
 use crate::operations::{put_op, put_reductions};
 use crate::products::{
     put_linked_product, put_product_function, put_product_guard, put_product_macros, put_products,
@@ -303,8 +301,7 @@ fn print_product_header(
     put_first(&mut out, program)?;
     put_product_guard(&mut out, &capitals)?;
     put_product_macros(&mut out, &capitals, program.size, program.modulus)?;
-    let word = word_type(program.half);
-    put_linked_product(&mut out, &capitals, name, word.as_bytes())?;
+    put_linked_product(&mut out, &capitals, name, program.half)?;
     Ok(out)
 }
 

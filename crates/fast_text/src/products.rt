@@ -3,10 +3,10 @@
 // residue of it.
 
 ghost use Rattle.std.specs.Prelude.{◌≡◌, ◌++◌, OnOk};
-ghost use Rattle.fast_text.specs.FunctionText.{linkage_text};
+ghost use Rattle.fast_text.specs.FunctionText.{linkage_text, word_type_text};
 ghost use Rattle.fast_text.specs.ProductText.{halves_text, one_lane_halves_text, part_halves_text, lane_halves_text, times_text, products_text, factors_check_text, each_product_text, product_function_text, product_asked_text, declared_product_text, product_guard_text, product_macros_text};
 
-use crate::header::put_macro;
+use crate::header::{put_macro, word_type};
 use listing_text::{put_numbered, put_word};
 use std::alloc::AllocError;
 
@@ -254,8 +254,8 @@ fn put_declared_product(out: &mut Vec<u8>, name: &[u8], word: &[u8]) -> Result<(
     put_word(out, b" *b);\n")
 }
 
-/// Writes the function over words of a type, and what is asked of its arrays.
-pub(crate) fn put_linked_product(
+// The function over words of a type, and what is asked of its arrays.
+fn put_product_of(
     out: &mut Vec<u8>,
     capitals: &[u8],
     name: &[u8],
@@ -268,4 +268,19 @@ pub(crate) fn put_linked_product(
     put_product_asked(out, capitals, name)?;
     put_declared_product(out, name, word)?;
     put_word(out, b"#ifdef __cplusplus\n}\n#endif\n#endif\n")
+}
+
+/// Writes the function over words that have a base with this square root.
+pub(crate) fn put_linked_product(
+    out: &mut Vec<u8>,
+    capitals: &[u8],
+    name: &[u8],
+    half: u64,
+) -> Result<(), AllocError>
+    ensures { OnOk result (out.new.items ≡ out.old.items ++ linkage_text
+        (product_asked_text capitals.now name.now
+        ++ declared_product_text name.now (word_type_text half))) }
+{
+    let word = word_type(half);
+    put_product_of(out, capitals, name, word.as_bytes())
 }
