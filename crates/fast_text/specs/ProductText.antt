@@ -25,40 +25,40 @@ halves_text =
 unfoldable pub one_lane_halves_text : List ℕ
 one_lane_halves_text =
     codes "#if V == 1\n"
-    ++ codes "INLINE vec upper(vec a, vec b) { return high_half(a, b); }\n"
-    ++ codes "INLINE vec lower(vec a, vec b) { return low_half(a, b); }\n"
+    ++ codes "INLINE vec highs(vec a, vec b) { return high_half(a, b); }\n"
+    ++ codes "INLINE vec lows(vec a, vec b) { return low_half(a, b); }\n"
 
 -- of registers in parts: halves of 64 bits are made of four partial products
 unfoldable pub part_halves_text : List ℕ
 part_halves_text =
     codes "#elif defined PARTS\n"
     ++ codes "#if HALF == 67108864 && defined FMA\n"
-    ++ codes "INLINE part upper_part(part a, part b) { part none = {}; return FMA(hi, none, a, b); }\n"
-    ++ codes "INLINE part lower_part(part a, part b) { part none = {}; return FMA(lo, none, a, b); }\n"
+    ++ codes "INLINE part highs_part(part a, part b) { part none = {}; return FMA(hi, none, a, b); }\n"
+    ++ codes "INLINE part lows_part(part a, part b) { part none = {}; return FMA(lo, none, a, b); }\n"
     ++ codes "#elif HALF == 67108864\n"
-    ++ codes "INLINE part upper_part(part a, part b) {\n"
+    ++ codes "INLINE part highs_part(part a, part b) {\n"
     ++ codes "part a1 = a >> 26, a0 = a & PART, b1 = b >> 26, b0 = b & PART;\n"
     ++ codes "return low(a1, b1) + ((low(a1, b0) + low(a0, b1) + (low(a0, b0) >> 26)) >> 26); }\n"
-    ++ codes "INLINE part lower_part(part a, part b) { return a * b & LOW52; }\n"
+    ++ codes "INLINE part lows_part(part a, part b) { return a * b & LOW52; }\n"
     ++ codes "#elif HALF == 4294967296\n"
-    ++ codes "INLINE part upper_part(part a, part b) {\n"
+    ++ codes "INLINE part highs_part(part a, part b) {\n"
     ++ codes "part a1 = a >> 32, b1 = b >> 32, x = low(a1, b), y = low(a, b1);\n"
     ++ codes "part carried = (low(a, b) >> 32) + (x & 0xffffffffULL) + (y & 0xffffffffULL);\n"
     ++ codes "return low(a1, b1) + (x >> 32) + (y >> 32) + (carried >> 32); }\n"
-    ++ codes "INLINE part lower_part(part a, part b) { return a * b; }\n"
+    ++ codes "INLINE part lows_part(part a, part b) { return a * b; }\n"
     ++ codes "#else\n"
-    ++ codes "INLINE part upper_part(part a, part b) { return halves(a, b); }\n"
-    ++ codes "INLINE part lower_part(part a, part b) { return a * b; }\n"
+    ++ codes "INLINE part highs_part(part a, part b) { return halves(a, b); }\n"
+    ++ codes "INLINE part lows_part(part a, part b) { return a * b; }\n"
     ++ codes "#endif\n"
-    ++ codes "INLINE vec upper(vec a, vec b) { PARTS(upper_part(a.p[i], b.p[i])); }\n"
-    ++ codes "INLINE vec lower(vec a, vec b) { PARTS(lower_part(a.p[i], b.p[i])); }\n"
+    ++ codes "INLINE vec highs(vec a, vec b) { PARTS(highs_part(a.p[i], b.p[i])); }\n"
+    ++ codes "INLINE vec lows(vec a, vec b) { PARTS(lows_part(a.p[i], b.p[i])); }\n"
 
 -- of registers of other lanes, one by one
 unfoldable pub lane_halves_text : List ℕ
 lane_halves_text =
     codes "#else\n"
-    ++ codes "INLINE vec upper(vec a, vec b) { LANES(high_half(a.l[l], b.l[l])); }\n"
-    ++ codes "INLINE vec lower(vec a, vec b) { LANES(low_half(a.l[l], b.l[l])); }\n"
+    ++ codes "INLINE vec highs(vec a, vec b) { LANES(high_half(a.l[l], b.l[l])); }\n"
+    ++ codes "INLINE vec lows(vec a, vec b) { LANES(low_half(a.l[l], b.l[l])); }\n"
     ++ codes "#endif\n"
 
 -- a residue of each half, and their sum: the base modulo M and 1 are known factors, whose quotients a compiler computes
@@ -71,8 +71,8 @@ times_text =
     ++ codes "#endif\n"
     ++ codes "INLINE vec residue(vec a) { return ROUGH ? reduced(reduced(a, 2 * (word)M), M) : reduced(a, M); }\n"
     ++ codes "INLINE vec times(vec a, vec b) {\n"
-    ++ codes "vec x = residue(mul(upper(a, b), splat(BASE % M), splat(BASE % M * BASE / M)));\n"
-    ++ codes "vec y = residue(mul(lower(a, b), splat(1), splat(BASE / M)));\n"
+    ++ codes "vec x = residue(mul(highs(a, b), splat(BASE % M), splat(BASE % M * BASE / M)));\n"
+    ++ codes "vec y = residue(mul(lows(a, b), splat(1), splat(BASE / M)));\n"
     ++ codes "return reduced(add(x, y), M); }\n"
 
 -- what products of registers do, whatever the program

@@ -41,8 +41,8 @@ fn put_one_lane_halves(out: &mut Vec<u8>) -> Result<(), AllocError>
 {
     out.extend_from_slice(
         b"#if V == 1
-INLINE vec upper(vec a, vec b) { return high_half(a, b); }
-INLINE vec lower(vec a, vec b) { return low_half(a, b); }
+INLINE vec highs(vec a, vec b) { return high_half(a, b); }
+INLINE vec lows(vec a, vec b) { return low_half(a, b); }
 ",
     )
 }
@@ -55,25 +55,25 @@ fn put_part_halves(out: &mut Vec<u8>) -> Result<(), AllocError>
     out.extend_from_slice(
         b"#elif defined PARTS
 #if HALF == 67108864 && defined FMA
-INLINE part upper_part(part a, part b) { part none = {}; return FMA(hi, none, a, b); }
-INLINE part lower_part(part a, part b) { part none = {}; return FMA(lo, none, a, b); }
+INLINE part highs_part(part a, part b) { part none = {}; return FMA(hi, none, a, b); }
+INLINE part lows_part(part a, part b) { part none = {}; return FMA(lo, none, a, b); }
 #elif HALF == 67108864
-INLINE part upper_part(part a, part b) {
+INLINE part highs_part(part a, part b) {
 part a1 = a >> 26, a0 = a & PART, b1 = b >> 26, b0 = b & PART;
 return low(a1, b1) + ((low(a1, b0) + low(a0, b1) + (low(a0, b0) >> 26)) >> 26); }
-INLINE part lower_part(part a, part b) { return a * b & LOW52; }
+INLINE part lows_part(part a, part b) { return a * b & LOW52; }
 #elif HALF == 4294967296
-INLINE part upper_part(part a, part b) {
+INLINE part highs_part(part a, part b) {
 part a1 = a >> 32, b1 = b >> 32, x = low(a1, b), y = low(a, b1);
 part carried = (low(a, b) >> 32) + (x & 0xffffffffULL) + (y & 0xffffffffULL);
 return low(a1, b1) + (x >> 32) + (y >> 32) + (carried >> 32); }
-INLINE part lower_part(part a, part b) { return a * b; }
+INLINE part lows_part(part a, part b) { return a * b; }
 #else
-INLINE part upper_part(part a, part b) { return halves(a, b); }
-INLINE part lower_part(part a, part b) { return a * b; }
+INLINE part highs_part(part a, part b) { return halves(a, b); }
+INLINE part lows_part(part a, part b) { return a * b; }
 #endif
-INLINE vec upper(vec a, vec b) { PARTS(upper_part(a.p[i], b.p[i])); }
-INLINE vec lower(vec a, vec b) { PARTS(lower_part(a.p[i], b.p[i])); }
+INLINE vec highs(vec a, vec b) { PARTS(highs_part(a.p[i], b.p[i])); }
+INLINE vec lows(vec a, vec b) { PARTS(lows_part(a.p[i], b.p[i])); }
 ",
     )
 }
@@ -85,8 +85,8 @@ fn put_lane_halves(out: &mut Vec<u8>) -> Result<(), AllocError>
 {
     out.extend_from_slice(
         b"#else
-INLINE vec upper(vec a, vec b) { LANES(high_half(a.l[l], b.l[l])); }
-INLINE vec lower(vec a, vec b) { LANES(low_half(a.l[l], b.l[l])); }
+INLINE vec highs(vec a, vec b) { LANES(high_half(a.l[l], b.l[l])); }
+INLINE vec lows(vec a, vec b) { LANES(low_half(a.l[l], b.l[l])); }
 #endif
 ",
     )
@@ -105,8 +105,8 @@ fn put_times(out: &mut Vec<u8>) -> Result<(), AllocError>
 #endif
 INLINE vec residue(vec a) { return ROUGH ? reduced(reduced(a, 2 * (word)M), M) : reduced(a, M); }
 INLINE vec times(vec a, vec b) {
-vec x = residue(mul(upper(a, b), splat(BASE % M), splat(BASE % M * BASE / M)));
-vec y = residue(mul(lower(a, b), splat(1), splat(BASE / M)));
+vec x = residue(mul(highs(a, b), splat(BASE % M), splat(BASE % M * BASE / M)));
+vec y = residue(mul(lows(a, b), splat(1), splat(BASE / M)));
 return reduced(add(x, y), M); }
 ",
     )
