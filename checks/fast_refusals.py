@@ -1,6 +1,6 @@
 #!/usr/bin/env python3
-"""How `spiral-fast` refuses: each status, each option and each kind of name, with its line and without output. And that a name it
-takes compiles: each word that stands in its texts, and words of C, are either refused or names of functions that GCC and Clang take.
+"""How `spiral-fast` refuses: each status, each option and each kind of name, with its line and without output. And what it says of a text
+that stays at one lane, with the line of the listing. And that a name it takes compiles: each word that stands in its texts, and words of C, are either refused or names of functions that GCC and Clang take.
 
     checks/fast_refusals.py
 """
@@ -46,6 +46,43 @@ LISTINGS = {
     "wide and writing": WRITING.replace("mod 17", f"mod {2**51}"),
     "long": "program" + " " * (2**26 - 6),
 }
+# Programs of which a statement cannot be put on lanes, after one that can.
+LOOP = ["for v0 8", "ld r0 X[0+v0*1]", "st Y[0+v0*1] r0", "end"]
+MANY = ["for v0 8", *(line for k in range(257) for line in (f"ld r{k} X[{k}+v0*1]", f"st A[{k}+v0*1] r{k}")), "end"]
+
+
+def after_loop(*lines):
+    return program(17, *LOOP, *lines, size=512, registers=300)
+
+
+LANED = {
+    "no loop": after_loop("ld r0 X[0]", "st Y[0] r0"),
+    "side by side": after_loop("for v0 8", "for v1 8", "ld r0 X[0+v1*1]", "st A[0+v1*1] r0", "end", "ld r0 X[0]", "st A[0] r0", "end"),
+    "stores": after_loop(*MANY),
+    "rounds": after_loop("for v0 9", "ld r0 X[0+v0*1]", "st A[0+v0*1] r0", "end"),
+    "registers": after_loop("for v0 8", "st A[0+v0*1] r0", "ld r0 X[0+v0*1]", "end"),
+    "places": after_loop("for v0 8", "ld r0 X[0+v0*3]", "st A[0+v0*1] r0", "end"),
+    "many registers": program(17, *LOOP, size=8, registers=349526),
+    # other statements come first where they stand: a table has a line, and a phase has two
+    "phases": program(17, *LOOP, "end", "phase", *LOOP, "ld r0 X[0]", "st Y[0] r0", size=8).replace("phase", "table 0 values 1\nphase", 1),
+    # loops in the other order, and registers of another order, have the same lines
+    "another's": program(17, "for v0 4", "for v1 4", "ld r1 X[0+v0*1+v1*4]", "st A[0+v0*1+v1*4] r1", "end", "end", "ld r0 X[0]", "st Y[0] r0", size=16),
+    # what can be put on lanes, and what has lanes of its own
+    "a loop": program(17, *LOOP, size=8),
+    "two lanes": program(17, "ld r0 X[0]", "st Y[0] r0").replace("lanes 1", "lanes 2"),
+}
+LISTINGS |= LANED
+AT_ONE = (
+    ("no loop", 0, "one lane: line 7 stands in no loop"),
+    ("side by side", 0, "one lane: the loop at line 7 has loops side by side, or beside operations"),
+    ("stores", 0, "one lane: the loop at line 7 stores more than 256 times in a round"),
+    ("rounds", 0, "one lane: the loop at line 7 has rounds that are no multiple of the lanes"),
+    ("registers", 0, "one lane: the loop at line 7 reads registers that its round has not put"),
+    ("places", 0, "one lane: the loop at line 7 loads or stores words that do not stand side by side"),
+    ("many registers", 0, "one lane: more than 349525 registers"),
+    ("phases", 0, "one lane: line 14 stands in no loop"),
+    ("another's", 0, "one lane: line 9 stands in no loop"),
+)
 # Words, listing, status and line.
 ROWS = (
     # the words
@@ -90,6 +127,12 @@ ROWS = (
     ("writing", "", 0, ""),
     ("writing", "--name f", 25, "phase 1 stores into X, which is only read in a function"),
     ("writing", "--name f --header", 25, "phase 1 stores into X, which is only read in a function"),
+    # why a text is of one lane, and nothing where it has several, or where none were asked for
+    *((listing, words, status, line) for listing, status, line in AT_ONE for words in ("--lanes 4", "--lanes 8 --name f", "--lanes 2 --name f --header")),
+    *((listing, "", 0, "") for listing, *_ in AT_ONE),
+    ("a loop", "--lanes 8", 0, ""),
+    ("a loop", "--lanes 16", 0, "one lane: the loop at line 3 has rounds that are no multiple of the lanes"),
+    ("two lanes", "--lanes 8", 0, ""),
     # the modulus is told first
     ("wide and writing", "--name f --words 52", 24, "modulus of more than 52-bit words"),
 )
@@ -109,13 +152,15 @@ def called(words, text):
 
 
 def told(status, line):
-    return status, f"spiral_fast: {line}\n" if status else ""
+    return status, f"spiral_fast: {line}\n" if line else ""
 
 
 def rows():
+    """What is said, and that a text stands there if it is asked for: behind a comment of the same words, if any are said, it is of one lane."""
     for listing, words, status, line in ROWS:
         number, text, note = called(words.split(), LISTINGS[listing])
-        if (number, note) != told(status, line) or bool(text) == bool(status):
+        front = f"// {line}\n/* program " if line else "/* program "
+        if (number, note) != told(status, line) or bool(text) == bool(status) or not text.startswith("" if status else front):
             yield f"{listing!r}, {words!r}: {number} {note}"
 
 

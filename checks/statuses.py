@@ -5,6 +5,7 @@ example. And looks whether each status of both programs, with its line, stands i
     checks/statuses.py [--table]     the option also prints how often each status stands in the tests
 """
 
+import collections
 import pathlib
 import re
 import sys
@@ -12,7 +13,8 @@ import sys
 TOP = pathlib.Path(__file__).resolve().parent.parent
 PAGE = (TOP / "docs" / "STATUS.md").read_text(encoding="utf-8")
 ROW = re.compile(r"^row_of (?:\((\w+)[^)]*\)|(\w+)) =\s+row (\d+) (.*?)\[\]\)?$", re.M | re.S)
-PART = re.compile(r'\((?:codes "([^"]*)"|\w+ \w+), (None|Some \w+)\)')
+PART = re.compile(r'\((?:codes "([^"]*)"|(\w+) \w+), (None|Some \w+)\)')
+WORDS = re.compile(r'^(\w+) \w+ = codes "([^"]*)"$', re.M)
 # Of each program where its statuses stand, and its tests.
 PROGRAMS = {
     "spiral": ("spiral_words/specs/Statuses", ["crates/worked_examples/src/*.rt", "checks/refuse_memory.sh"]),
@@ -23,8 +25,14 @@ PROGRAMS = {
 def statuses(program):
     """Of each status its name, its number, and a pattern of its lines."""
     text = (TOP / "crates" / PROGRAMS[program][0] / "Rows.antt").read_text(encoding="utf-8")
+    words = collections.defaultdict(list)
+    for name, word in WORDS.findall(text):
+        words[name].append(re.escape(word))
     for with_numbers, alone, number, parts in ROW.findall(text):
-        line = "".join((re.escape(word) if word else r"\w+") + (r"\d+" if behind != "None" else "") for word, behind in PART.findall(parts))
+        line = ""
+        for word, name, behind in PART.findall(parts):
+            line += re.escape(word) or f"(?:{'|'.join(words[name])})" if word or words[name] else r"\w+"
+            line += r"\d+" if behind != "None" else ""
         yield with_numbers or alone, int(number), line
 
 

@@ -1,6 +1,6 @@
 -- Each call has an outcome, and a listing that passes has its text.
 use Rattle.std.proofs.Common.{◌≡◌, ℕ, ◌+◌, ◌≤◌, Bool, true, false, List, [], Option, Some, None, Ok, Err, Result}
-use Rattle.std.proofs.Common.{length, inl, inr, refl, ap, ⊎_elim}
+use Rattle.std.proofs.Common.{length, inl, inr, refl, sym, ap, subst, ⊎_elim}
 use Rattle.std.specs.Prelude.{codes, if◌then◌else◌}
 use Rattle.std.specs.Str.{bytes_eq}
 use Rattle.std.specs.Option.{option_map_or}
@@ -23,16 +23,18 @@ use Rattle.word_code.specs.declared.laziness.WordSize.{WordSize}
 use Rattle.word_code.specs.Laziness.{allows, size_for}
 use Rattle.fast_text.specs.TextForm.{TextForm}
 use Rattle.fast_main.specs.declared.status.Status.{Status}
-use Rattle.fast_main.specs.declared.status.Status.TheVariants.{InputWritten, ListingSyntax, Success, TooLong, Usage}
+use Rattle.fast_main.specs.declared.status.Status.TheVariants.{InputWritten, ListingSyntax, TooLong, Usage}
 use Rattle.fast_main.specs.declared.status.Status.TheVariants.{WideModulus}
 use Rattle.fast_main.specs.Options.Asked.{Asked, IsLaneCount, asked, form_in, lanes_in, lanes_named, size_in}
 use Rattle.fast_main.specs.Options.Asked.{together}
 use Rattle.fast_main.specs.Options.CommandLine.{fast_app}
 use Rattle.fast_main.specs.Outcome.{IsAnswer, IsOutcome, IsOutcomeOfListing, IsTranslated}
 use Rattle.fast_main.specs.Status.{listing_limit, status_of_check}
-use Rattle.fast_main.specs.Translation.{AreSoundWords, KeepsInput, fast_text, takes_leftovers, wanted_words, writer_in}
+use Rattle.fast_main.specs.Translation.{AreSoundWords, KeepsInput, ending_of, fast_text, written_text, takes_leftovers, wanted_words, writer_in}
 use Rattle.fast_main.specs.Words.{bits_of}
+use Rattle.fast_text.specs.WordTexts.{IsReadAs}
 use Rattle.fast_text.proofs.TextBack.{text_is_read}
+use Rattle.fast_main.proofs.FirstLine.{behind_first_line}
 use Rattle.fast_main.proofs.Faithful.{sound_words, spelt_words}
 
 -- ---- lanes
@@ -86,9 +88,9 @@ abbrev HasAnswer : (Status → List ℕ → Type 0) → Type 0
 HasAnswer right = (status : Status) × (text : List ℕ) × right status text
 
 module _ (wanted : Asked) (count : IsLaneCount wanted.lanes) (bytes : List ℕ) where
-  pub translated : (p : PlainProgram) → is_listing bytes p → PassesCheck action_limit p →
+  abbrev pub translated : (p : PlainProgram) → is_listing bytes p → PassesCheck action_limit p →
       allows (size_for wanted.size p) p.modulus ≡ true → KeepsInput wanted p →
-      IsTranslated wanted bytes (fast_text wanted p)
+      IsTranslated wanted bytes (written_text wanted p)
   translated p listing passes allowed keeps =
       let size = size_for wanted.size p in
       record {
@@ -99,16 +101,20 @@ module _ (wanted : Asked) (count : IsLaneCount wanted.lanes) (bytes : List ℕ) 
         sound = passed_sound size wanted.lanes p count listing.0 passes allowed;
         keeps = keeps;
         says = refl;
-        read_back = text_is_read (wanted_words wanted p)
+        read_back =
+            subst (λ t. IsReadAs wanted.form (takes_leftovers size wanted.lanes p) t (wanted_words wanted p))
+            (sym (behind_first_line (ending_of wanted.lanes p) wanted.form (takes_leftovers size wanted.lanes p)
+            (wanted_words wanted p)))
+            (text_is_read (wanted_words wanted p)
             (spelt_words size wanted.lanes p count listing.0 (passed_fits p listing.0 passes) passes.apart allowed)
-            (takes_leftovers size wanted.lanes p) wanted.form;
+            (takes_leftovers size wanted.lanes p) wanted.form);
       }
 
   by_writer : (p : PlainProgram) → is_listing bytes p → PassesCheck action_limit p →
       allows (size_for wanted.size p) p.modulus ≡ true → (o : Option ℕ) →
       writer_in wanted.form (wanted_words wanted p) ≡ o → HasAnswer (IsAnswer wanted bytes)
   by_writer p listing passes allowed None e =
-      (Success, fast_text wanted p, inr (refl, translated p listing passes allowed e))
+      (ending_of wanted.lanes p, written_text wanted p, inr (translated p listing passes allowed e, refl))
   by_writer p listing passes allowed (Some phase) e = (
     InputWritten phase,
     [],
@@ -185,7 +191,7 @@ some_outcome words bytes = by_words (asked words) refl
 pub translated_outcome : (words : List Text) (bytes : List ℕ) (wanted : Asked) (p : PlainProgram) →
     asked words ≡ Some wanted → length (first_part bytes) ≤ listing_limit → is_listing (first_part bytes) p →
     PassesCheck action_limit p → allows (size_for wanted.size p) p.modulus ≡ true → KeepsInput wanted p →
-    IsOutcome words bytes Success (fast_text wanted p)
+    IsOutcome words bytes (ending_of wanted.lanes p) (written_text wanted p)
 translated_outcome words bytes wanted p e short listing passes allowed keeps =
     let count = lanes-asked words wanted e in
-    inr (wanted, e, inr (short, inr (refl, translated wanted count (first_part bytes) p listing passes allowed keeps)))
+    inr (wanted, e, inr (short, inr (translated wanted count (first_part bytes) p listing passes allowed keeps, refl)))

@@ -6,3 +6,6 @@ pub mod Laned
 pub mod Rerouted
 pub mod Once
 pub mod Told
+pub mod FirstLine
+pub mod OneLane
+pub mod SameLines

@@ -18,7 +18,8 @@ use Rattle.fast_main.specs.Outcome.{IsOutcome}
 use Rattle.fast_main.specs.Words.{bits_of}
 use Rattle.fast_main.specs.Status.{status_of_check}
 use Rattle.fast_main.specs.Outcome.{TextsAreOfOneProgram}
-use Rattle.fast_main.specs.Translation.{IsWritten, KeepsInput, fast_text, takes_leftovers, wanted_words}
+use Rattle.fast_main.specs.Translation.{IsWritten, KeepsInput, ending_of, written_text, takes_leftovers, wanted_words}
+use Rattle.fast_main.specs.FirstLine.{without_comment}
 use Rattle.fast_text.specs.WordTexts.{IsReadAs}
 use Rattle.fast_text.proofs.TextBack.{read_once as text_read_once}
 use Rattle.fast_main.specs.Options.Asked.{Asked, asked}
@@ -140,7 +141,7 @@ refused_or_translated wanted bytes text a (inr (inr (inr p))) q =
 
 translated_once : (wanted : Asked) (bytes s t : List ℕ) → IsTranslated wanted bytes s → IsTranslated wanted bytes t →
     s ≡ t
-translated_once wanted bytes s t p q = p.says ∙ ap (fast_text wanted) (one_program bytes p.program q.program p.listing q.listing) ∙ sym q.says
+translated_once wanted bytes s t p q = p.says ∙ ap (written_text wanted) (one_program bytes p.program q.program p.listing q.listing) ∙ sym q.says
 
 -- Texts
 
@@ -150,9 +151,9 @@ told_of wanted p = takes_leftovers (size_for wanted.size p) wanted.lanes p
 
 pub one_program_spelt : TextsAreOfOneProgram
 one_program_spelt a b bytes others text has same p q =
-    (text_read_once a.form has text (told_of a p.program) (told_of b q.program) (wanted_words a p.program)
+    (text_read_once a.form has (without_comment text) (told_of a p.program) (told_of b q.program) (wanted_words a p.program)
     (wanted_words b q.program) p.read_back
-    (subst (λ form. IsReadAs form (told_of b q.program) text (wanted_words b q.program)) (sym same) q.read_back)).1
+    (subst (λ form. IsReadAs form (told_of b q.program) (without_comment text) (wanted_words b q.program)) (sym same) q.read_back)).1
 
 abbrev Same : Status → Status → List ℕ → List ℕ → Type 0
 Same a b s t = (a ≡ b) × (s ≡ t)
@@ -160,9 +161,11 @@ Same a b s t = (a ≡ b) × (s ≡ t)
 answer_once : (wanted : Asked) (bytes : List ℕ) (a b : Status) (s t : List ℕ) → IsAnswer wanted bytes a s →
     IsAnswer wanted bytes b t → Same a b s t
 answer_once wanted bytes a b s t (inl p) (inl q) = (refused_once wanted bytes a b p.0 q.0, p.1 ∙ sym q.1)
-answer_once wanted bytes a b s t (inl p) (inr q) = absurd (refused_or_translated wanted bytes t a p.0 q.1)
-answer_once wanted bytes a b s t (inr p) (inl q) = absurd (refused_or_translated wanted bytes s b q.0 p.1)
-answer_once wanted bytes a b s t (inr p) (inr q) = (p.0 ∙ sym q.0, translated_once wanted bytes s t p.1 q.1)
+answer_once wanted bytes a b s t (inl p) (inr q) = absurd (refused_or_translated wanted bytes t a p.0 q.0)
+answer_once wanted bytes a b s t (inr p) (inl q) = absurd (refused_or_translated wanted bytes s b q.0 p.0)
+answer_once wanted bytes a b s t (inr p) (inr q) =
+    let same = one_program bytes p.0.program q.0.program p.0.listing q.0.listing in
+    (p.1 ∙ ap (ending_of wanted.lanes) same ∙ sym q.1, translated_once wanted bytes s t p.0 q.0)
 
 listing_once : (wanted : Asked) (bytes : List ℕ) (a b : Status) (s t : List ℕ) → IsOutcomeOfListing wanted bytes a s →
     IsOutcomeOfListing wanted bytes b t → Same a b s t

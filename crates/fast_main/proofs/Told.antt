@@ -16,8 +16,8 @@ use Rattle.data_stream.proofs.TwoParts.PartLemmas.{still_ended}
 use Rattle.io_edge.specs.Feed.{Fed, to_come}
 use Rattle.io_edge.specs.Taken.{AppendsPrefix}
 use Rattle.fast_main.specs.declared.status.Status.{Status}
-use Rattle.fast_main.specs.declared.status.Status.TheVariants.{Success, Usage, ReadFault, WriteFault, NoMemory, TooLong}
-use Rattle.fast_main.specs.Outcome.{IsRefused, IsTranslated, IsDefined, IsInside, IsOutcome, IsOutcomeOfListing}
+use Rattle.fast_main.specs.declared.status.Status.TheVariants.{Usage, ReadFault, WriteFault, NoMemory, TooLong}
+use Rattle.fast_main.specs.Outcome.{EndsAs, IsRefused, IsDefined, IsDone, IsInside, IsOutcome, IsOutcomeOfListing}
 use Rattle.fast_main.specs.Outcome.{IsAnswer, Accounts, AccountsFor, AreJudged, HasReadListing}
 use Rattle.fast_main.specs.Status.{listing_limit, status_of_rest, status_of_words}
 
@@ -158,20 +158,20 @@ module _ (given : List (List ℕ)) (wanted : Asked) (out : Option (List ℕ)) (i
         account out status (λ more tells. settled given _ more out out status inside.read inside.write
         (λ d. ([], outcome more [] status tells (inl (refused d, refl)), Appends-nil out)))
 
-    pub told_cut : (out' : Option (List ℕ)) (text : List ℕ) → IsTranslated wanted listing text
-        → AppendsPrefix out out' text → AccountsFor given told left out out' WriteFault
-    told_cut out' text translated wrote =
+    pub told_cut : (out' : Option (List ℕ)) (text : List ℕ) (ended : Status) → EndsAs wanted listing ended text
+        → IsDone ended → AppendsPrefix out out' text → AccountsFor given told left out out' WriteFault
+    told_cut out' text ended ends done wrote =
         account out' WriteFault (λ more tells. record {
           answer = λ d. absurd (d.write refl);
           read_fault = λ e. absurd (cc);
-          write_fault = λ e. (text, outcome more text Success tells (inr (refl, translated)), wrote);
+          write_fault = λ e. (ended, text, done.good, outcome more text ended tells (inr ends), wrote);
         })
 
-    pub told_whole : (out' : Option (List ℕ)) (text : List ℕ) → IsTranslated wanted listing text
-        → Appends out out' text → AccountsFor given told left out out' Success
-    told_whole out' text translated wrote =
-        account out' Success (λ more tells. settled given _ more out out' Success (λ e. cc) (λ e. cc)
-        (λ d. (text, outcome more text Success tells (inr (refl, translated)), wrote)))
+    pub told_whole : (out' : Option (List ℕ)) (text : List ℕ) (ended : Status) → EndsAs wanted listing ended text
+        → IsDone ended → Appends out out' text → AccountsFor given told left out out' ended
+    told_whole out' text ended ends done wrote =
+        account out' ended (λ more tells. settled given _ more out out' ended done.read done.write
+        (λ d. (text, outcome more text ended tells (inr ends), wrote)))
 
 -- none of the faults of the input is a word's
 pub rest_is_no_usage : (fault : RestFault) → status_of_rest fault ≢ Usage

@@ -13,11 +13,11 @@ use Rattle.word_code.specs.Laziness.{allows, size_for}
 use Rattle.io_edge.specs.Faults.{Rose}
 use Rattle.io_edge.specs.Taken.{AppendsPrefix}
 use Rattle.fast_main.specs.declared.status.Status.{Status}
-use Rattle.fast_main.specs.declared.status.Status.TheVariants.{Success, Usage, ListingSyntax, WideModulus, ReadFault}
+use Rattle.fast_main.specs.declared.status.Status.TheVariants.{Usage, ListingSyntax, WideModulus, ReadFault}
 use Rattle.fast_main.specs.declared.status.Status.TheVariants.{WriteFault, NoMemory, TooLong}
-use Rattle.fast_main.specs.Status.{listing_limit, status_of_check}
+use Rattle.fast_main.specs.Status.{code_of, listing_limit, status_of_check}
 use Rattle.fast_text.specs.WordTexts.{HasStatements}
-use Rattle.fast_main.specs.Translation.{fast_text, wanted_words, AreSoundWords, IsReadBack, IsWritten, KeepsInput}
+use Rattle.fast_main.specs.Translation.{ending_of, written_text, wanted_words, AreSoundWords, IsReadBack, IsWritten, KeepsInput}
 use Rattle.fast_main.specs.Words.{bits_of}
 use Rattle.fast_main.specs.Options.Asked.{Asked, asked}
 use Rattle.data_stream.specs.Parts.Part.{first_part, HasPartEnded, IsInPart}
@@ -63,8 +63,13 @@ pub record IsTranslated (wanted : Asked) (bytes text : List ℕ) : Type 0 where
   pub allowed : allows (size_for wanted.size program) program.modulus ≡ true
   pub sound : AreSoundWords (size_for wanted.size program) wanted.lanes program
   pub keeps : KeepsInput wanted program
-  pub says : text ≡ fast_text wanted program
+  pub says : text ≡ written_text wanted program
   pub read_back : IsReadBack wanted program text
+
+-- the text is the one that is asked for, and a call that writes it ends so
+abbrev pub EndsAs : Asked → List ℕ → Status → List ℕ → Type 0
+EndsAs wanted bytes status text =
+    (made : IsTranslated wanted bytes text) × (status ≡ ending_of wanted.lanes made.program)
 
 -- two texts of one form that are the same, of whatever words and listings, are of the same program on words
 abbrev pub TextsAreOfOneProgram : Type 0
@@ -81,7 +86,7 @@ IsRefused wanted bytes status =
 -- status and text for a listing of no more bytes than may be
 abbrev pub IsAnswer : Asked → List ℕ → Status → List ℕ → Type 0
 IsAnswer wanted bytes status text =
-    (IsRefused wanted bytes status × (text ≡ [])) ⊎ ((status ≡ Success) × IsTranslated wanted bytes text)
+    (IsRefused wanted bytes status × (text ≡ [])) ⊎ EndsAs wanted bytes status text
 
 -- for the bytes of any listing
 abbrev pub IsOutcomeOfListing : Asked → List ℕ → Status → List ℕ → Type 0
@@ -101,9 +106,23 @@ pub record IsDefined (status : Status) : Type 0 where
   pub write : status ≢ WriteFault
   pub memory : status ≢ NoMemory
 
--- neither success nor a fault of the outside
+-- the text was written
+abbrev pub IsGood : Status → Type 0
+IsGood status = code_of status ≡ 0
+
+abbrev pub HasFailed : Status → Type 0
+HasFailed status = code_of status ≢ 0
+
+-- the text was written, so nothing else is told
+pub record IsDone (status : Status) : Type 0 where
+  pub good : IsGood status
+  pub read : status ≢ ReadFault
+  pub write : status ≢ WriteFault
+  pub usage : status ≢ Usage
+
+-- neither good nor a fault of the outside
 pub record IsInside (status : Status) : Type 0 where
-  pub success : status ≢ Success
+  pub fails : HasFailed status
   pub read : status ≢ ReadFault
   pub write : status ≢ WriteFault
   pub usage : status ≢ Usage
@@ -128,7 +147,7 @@ pub record Accounts (words : List (List ℕ)) (bytes left : List ℕ) (before af
       × Appends before after []
   -- a write failed at the text that the bytes call for, of which the output took a front
   pub write_fault : status ≡ WriteFault →
-      (text : List ℕ) × IsOutcome words bytes Success text × AppendsPrefix before after text
+      (ended : Status) × (text : List ℕ) × IsGood ended × IsOutcome words bytes ended text × AppendsPrefix before after text
 
 -- the same by an input: it gave these bytes, and with all that it may have left they account for status and output. One
 -- that does not tell its bytes may have any left

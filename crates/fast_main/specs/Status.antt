@@ -10,7 +10,7 @@ use Rattle.listing_text.specs.declared.listing.ListingFault.{ListingFault}
 use Rattle.listing_text.specs.declared.listing.ListingFault.TheVariants as listing
 use Rattle.io_edge.specs.Status.Rows.{line_of}
 use Rattle.fast_main.specs.declared.status.Status.{Status}
-use Rattle.fast_main.specs.declared.status.Status.TheVariants.{Success, Usage, ListingSyntax, OverSteps, Address}
+use Rattle.fast_main.specs.declared.status.Status.TheVariants.{Usage, ListingSyntax, OverSteps, Address}
 use Rattle.fast_main.specs.declared.status.Status.TheVariants.{Register, LineShared, ReadFault, NoMemory}
 use Rattle.fast_main.specs.declared.status.Status.TheVariants.{TooLong}
 use Rattle.fast_main.specs.Rows.{row_of}
@@ -48,6 +48,6 @@ status_of_check (check.LineShared phase line a b) = LineShared phase line a b
 status_of_check check.NoMemory = NoMemory
 
 -- the status that a call ends with
-abbrev pub status_of : Result (Unit {0}) Status → Status
-status_of (Ok x) = Success
+abbrev pub status_of : Result Status Status → Status
+status_of (Ok status) = status
 status_of (Err status) = status

@@ -1,5 +1,5 @@
 -- The C text of a program, and what the words that it spells leave.
-use Rattle.std.specs.Prelude.{◌≡◌, ◌≢◌, ◌↔◌, ℕ, ◌==◌, ◌%◌, ◌<◌, ◌≤◌, Bool, true, false, List, [], length, All, Option, Some}
+use Rattle.std.specs.Prelude.{◌≡◌, ◌≢◌, ◌↔◌, ℕ, ◌==◌, ◌%◌, ◌<◌, ◌≤◌, Bool, true, false, List, [], ◌++◌, length, All, Option, Some}
 use Rattle.std.specs.Prelude.{None, IsTrue, if◌then◌else◌}
 use Rattle.icode.specs.Actions.{plain_code}
 use Rattle.icode.specs.Fresh.{IsFresh}
@@ -7,6 +7,8 @@ use Rattle.icode.specs.Leftovers.{AreLeftovers, Leftovers}
 use Rattle.icode.specs.Machine.{IsApart, results}
 use Rattle.icode.specs.Plain.{PlainProgram}
 use Rattle.code_check.specs.Marks.{is_fresh}
+use Rattle.fast_main.specs.FirstLine.{first_line, without_comment}
+use Rattle.fast_main.specs.Lines.{statement_line}
 use Rattle.fast_main.specs.Options.Asked.{Asked}
 use Rattle.word_code.specs.InPlace.Sharing.{in_place}
 use Rattle.fused_loops.specs.Fused.{fused, large_size}
@@ -14,6 +16,9 @@ use Rattle.interchange.specs.Interchanged.{interchanged}
 use Rattle.renumbered_registers.specs.Renumbered.{renumbered}
 use Rattle.coalesced_loops.specs.Coalesced.{coalesced}
 use Rattle.loop_lanes.specs.Lanes.{can_be_laned, laned}
+use Rattle.loop_lanes.specs.Obstacles.{first_obstacle}
+use Rattle.loop_lanes.specs.declared.obstacles.Obstacle.{Obstacle}
+use Rattle.loop_lanes.specs.declared.obstacles.Obstacle.TheVariants as obstacle
 use Rattle.two_tables.specs.Factored.{factored, large_table}
 use Rattle.word_code.specs.Bare.{WordsFit}
 use Rattle.word_code.specs.declared.laziness.WordSize.{WordSize}
@@ -28,7 +33,7 @@ use Rattle.fast_text.specs.TextForm.{TextForm, with_arrays, named_function, name
 use Rattle.fast_text.specs.WordText.{words_text}
 use Rattle.fast_text.specs.WordTexts.{IsReadAs}
 use Rattle.fast_main.specs.declared.status.Status.{Status}
-use Rattle.fast_main.specs.declared.status.Status.TheVariants.{InputWritten}
+use Rattle.fast_main.specs.declared.status.Status.TheVariants.{InputWritten, OneLane, OneLaneOfRegisters, Success}
 
 -- the program on several lanes with its loops coalesced, if it can be laned so
 abbrev pub laned_if_coalesced : ℕ → PlainProgram → PlainProgram
@@ -59,6 +64,34 @@ abbrev pub prepared : WordSize → ℕ → PlainProgram → PlainProgram
 prepared size lanes p =
     let q = in_blocks lanes p in if has_cheap_products size then factored large_table q else q
 
+-- why the text stays at one lane, of the statements of the listing, if something keeps it there
+abbrev pub ending_at : PlainProgram → Option Obstacle → Status
+ending_at p None = Success
+ending_at p (Some obstacle.Lanes) = Success
+ending_at p (Some obstacle.Registers) = OneLaneOfRegisters
+ending_at p (Some (obstacle.Statement phase number fault)) = OneLane (statement_line p phase number) fault
+
+-- that of a program which was put on lanes if it can be. What keeps it from them is looked for with its loops coalesced,
+-- as it is last tried
+abbrev pub ending_on : ℕ → PlainProgram → Status
+ending_on lanes q =
+    if lanes == 1 then Success
+    else if q.lanes == 1 then ending_at q (first_obstacle lanes (coalesced q)) else Success
+
+-- How a call ends that writes the text: it says why the text is of one lane, where several are asked for
+abbrev pub ending_of : ℕ → PlainProgram → Status
+ending_of lanes p = ending_on lanes (on_lanes lanes p)
+
+-- The statements of the program on lanes, if it stays at one, begin at the lines of the listing at which the program's do
+abbrev pub AreLinesOfTheListing : ℕ → PlainProgram → Type 0
+AreLinesOfTheListing lanes p =
+    lanes ≢ 1 → (on_lanes lanes p).lanes ≡ 1 → (phase number : ℕ) →
+    statement_line (on_lanes lanes p) phase number ≡ statement_line p phase number
+
+-- it tells so exactly where it is so
+abbrev pub TellsOneLane : ℕ → PlainProgram → Type 0
+TellsOneLane lanes p = (ending_of lanes p ≢ Success) ↔ ((lanes ≢ 1) × ((on_lanes lanes p).lanes ≡ 1))
+
 -- it reads nothing that is left over, as a walk over its actions finds
 abbrev pub takes_leftovers : WordSize → ℕ → PlainProgram → Bool
 takes_leftovers size lanes p = is_fresh (prepared size lanes p)
@@ -76,11 +109,16 @@ abbrev pub fast_text : Asked → PlainProgram → List ℕ
 fast_text wanted p =
     words_text wanted.form (takes_leftovers (size_for wanted.size p) wanted.lanes p) (wanted_words wanted p)
 
+-- with the line that says why it is of one lane, where several are asked for
+abbrev pub written_text : Asked → PlainProgram → List ℕ
+written_text wanted p = first_line (ending_of wanted.lanes p) ++ fast_text wanted p
+
 -- the text is read as the program on words that is asked for, and as saying what arrays have to hold. A header has no
 -- statements
 abbrev pub IsReadBack : Asked → PlainProgram → List ℕ → Type 0
 IsReadBack wanted p text =
-    IsReadAs wanted.form (takes_leftovers (size_for wanted.size p) wanted.lanes p) text (wanted_words wanted p)
+    IsReadAs wanted.form (takes_leftovers (size_for wanted.size p) wanted.lanes p) (without_comment text)
+    (wanted_words wanted p)
 
 -- the phase that stores into the input, where that is the caller's
 abbrev pub writer_in : TextForm → PlainWordProgram → Option ℕ

@@ -12,10 +12,12 @@ ghost use Rattle.word_code.specs.declared.laziness.WordSize.{WordSize as SpecWor
 ghost use Rattle.word_code.specs.Laziness.{allows, size_for};
 ghost use Rattle.fast_main.specs.Options.Asked.{Asked, IsLaneCount, asked};
 ghost use Rattle.fast_main.specs.Status.{listing_limit};
-ghost use Rattle.fast_main.specs.Translation.{AreSoundWords, HasWholeLines, IsOrderFree, KeepsInput, fast_text};
+ghost use Rattle.fast_main.specs.Translation.{AreSoundWords, HasWholeLines, IsOrderFree, KeepsInput, AreLinesOfTheListing, TellsOneLane, ending_of, written_text};
 ghost use Rattle.fast_main.specs.declared.status.Status.{Status as SpecStatus};
 ghost use Rattle.fast_main.specs.Outcome.{Accounts, AccountsFor, IsOutcome, TextsAreOfOneProgram};
 
+mod first_line;
+mod lines;
 mod options;
 mod prepare;
 mod rows;
@@ -71,17 +73,29 @@ pub fn texts_are_of_one_program()
     ensures { TextsAreOfOneProgram }
 {}
 
+/// A call that writes a text says why it is of one lane exactly where several were asked for and it is of one.
+pub fn one_lane_is_told()
+    ensures { (lanes : ℕ) (program : PlainProgram) → IsLaneCount lanes → TellsOneLane lanes program }
+{}
+
+/// A program that is not put on several lanes has its statements at the same lines as the listing, also where its registers are
+/// renumbered and its loops interchanged.
+pub fn lines_are_of_the_listing()
+    ensures { (lanes : ℕ) (program : PlainProgram) → AreLinesOfTheListing lanes program }
+{}
+
 /// Where no size of words is asked for, lines of 8 words have whole lines of 64 bytes.
 pub fn lines_have_whole_bytes()
     ensures { (lanes : ℕ) (program : PlainProgram) → IsLaneCount lanes → HasWholeLines lanes program }
 {}
 
 /// Where the words ask for a text, and the listing is that of a program that passes the check, whose modulus they take
-/// and which keeps the input of a function, the outcome is success with this text.
+/// and which keeps the input of a function, the outcome is this text, and the status says why it is of one lane if several were
+/// asked for.
 pub fn good_listings_are_translated()
     ensures { (words : List (List ℕ)) (bytes : List ℕ) (wanted : Asked) (program : PlainProgram)
         → asked words ≡ Some wanted → length (first_part bytes) ≤ listing_limit
         → is_listing (first_part bytes) program → PassesCheck action_limit program
         → allows (size_for wanted.size program) program.modulus ≡ true → KeepsInput wanted program
-        → IsOutcome words bytes Status.Success (fast_text wanted program) }
+        → IsOutcome words bytes (ending_of wanted.lanes program) (written_text wanted program) }
 {}

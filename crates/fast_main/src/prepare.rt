@@ -4,13 +4,15 @@ ghost use Rattle.icode.specs.Machine.{IsApart};
 ghost use Rattle.icode.specs.Program.{plain_program, code_of, Fits};
 ghost use Rattle.loop_lanes.specs.Lanes.{IsLanes};
 ghost use Rattle.fast_main.specs.Options.Asked.{IsLaneCount};
-ghost use Rattle.fast_main.specs.Translation.{has_cheap_products, laned_if_coalesced, on_several, on_lanes, in_blocks, prepared};
+ghost use Rattle.fast_main.specs.Translation.{has_cheap_products, laned_if_coalesced, on_several, on_lanes, ending_at, ending_on, ending_of, prepared};
 
+use crate::Status;
+use crate::lines::statement_line;
 use coalesced_loops::coalesce_loops;
 use fused_loops::{LARGE_SIZE, fuse_loops};
 use icode::program::Program;
 use interchange::interchange;
-use loop_lanes::lane_loops;
+use loop_lanes::{Obstacle, first_obstacle, lane_loops};
 use memory::NoMemory;
 use renumbered_registers::renumber_registers;
 use std::alloc::Global;
@@ -73,34 +75,75 @@ fn put_on_lanes(alloc: Global, lanes: u64, program: Program) -> Result<Program, 
     Ok(made)
 }
 
-// That, where nests go over the blocks of large arrays together.
-fn put_in_blocks(alloc: Global, lanes: u64, program: Program) -> Result<Program, NoMemory>
-    requires { IsLaneCount lanes }
-    ensures { IfOk result
-        (λ made. plain_program made ≡ in_blocks lanes (plain_program program)) }
+// How a call ends that writes the text of a program which stays at one lane because of this.
+fn ending_at(program: &Program, obstacle: Option<Obstacle>) -> Result<Status, NoMemory>
+    ensures { IfOk result (λ status. status ≡ ending_at (plain_program program.now) obstacle) }
 {
-    let there = put_on_lanes(alloc, lanes, program)?;
-    let made = fuse_loops(alloc, LARGE_SIZE, there)?;
-    Ok(made)
+    match obstacle {
+        None => Ok(Status::Success),
+        Some(Obstacle::Lanes) => Ok(Status::Success),
+        Some(Obstacle::Registers) => Ok(Status::OneLaneOfRegisters),
+        Some(
+            Obstacle::Statement {
+                phase,
+                number,
+                fault,
+            },
+        ) => {
+            let line = statement_line(program, phase, number)?;
+            Ok(Status::OneLane { line, fault })
+        }
+    }
 }
 
-/// That, where large tables are in two factors if products are cheap.
+// How a call ends that writes the text of a program which was put on these lanes if it can be.
+fn ending_on(alloc: Global, lanes: u64, program: &Program) -> Result<Status, NoMemory>
+    requires { IsLaneCount lanes }
+    ensures { IfOk result (λ status. status ≡ ending_on lanes (plain_program program.now)) }
+{
+    if lanes == 1 {
+        return Ok(Status::Success);
+    }
+    if program.lanes != 1 {
+        return Ok(Status::Success);
+    }
+    let coalesced = coalesce_loops(alloc, program)?;
+    let obstacle = first_obstacle(alloc, lanes, &coalesced)?;
+    let status = ending_at(program, obstacle)?;
+    Ok(status)
+}
+
+/// A program as it is put on words, and how a call ends that writes its text.
+#[derive(Drop)]
+pub(crate) struct Prepared {
+    pub(crate) program: Program,
+    pub(crate) ending: Status,
+}
+
+/// The program on lanes, where nests go over the blocks of large arrays together, and large tables are in two factors if
+/// products are cheap.
 pub(crate) fn prepare(
     alloc: Global,
     size: WordSize,
     lanes: u64,
     program: Program,
-) -> Result<Program, NoMemory>
+) -> Result<Prepared, NoMemory>
     requires lanes { IsLaneCount lanes }
     requires fits { Fits program }
     requires apart { (phase : ℕ) → IsApart (code_of program) phase }
-    ensures { IfOk result
-        (λ made. plain_program made ≡ prepared size lanes (plain_program program)) }
+    ensures program { IfOk result
+        (λ made. plain_program made.program ≡ prepared size lanes (plain_program program)) }
+    ensures ending { IfOk result (λ made. made.ending ≡ ending_of lanes (plain_program program)) }
 {
-    let there = put_in_blocks(alloc, lanes, program)?;
+    let laned = put_on_lanes(alloc, lanes, program)?;
+    let ending = ending_on(alloc, lanes, &laned)?;
+    let blocks = fuse_loops(alloc, LARGE_SIZE, laned)?;
     if !has_cheap_products(size) {
-        return Ok(there);
+        return Ok(Prepared {
+            program: blocks,
+            ending,
+        });
     }
-    let made = factor_tables(alloc, LARGE_TABLE, there)?;
-    Ok(made)
+    let program = factor_tables(alloc, LARGE_TABLE, blocks)?;
+    Ok(Prepared { program, ending })
 }

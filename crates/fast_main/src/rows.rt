@@ -3,11 +3,43 @@ ghost use Rattle.std.specs.Prelude.{◌≡◌};
 ghost use Rattle.io_edge.specs.Faults.{HasCause};
 ghost use Rattle.io_edge.specs.Taken.{WritesAll};
 ghost use Rattle.io_edge.specs.Status.Views.{plain_row};
-ghost use Rattle.fast_main.specs.Rows.{row_of};
+ghost use Rattle.fast_main.specs.Rows.{row_of, before_line, why};
 ghost use Rattle.fast_main.specs.Status.{code_of, note_line};
 
 use crate::Status;
 use io_edge::{Sink, StatusRow, WriteFault, row};
+use loop_lanes::NestFault;
+
+/// What stands before the number of a line, where a text is of one lane.
+pub(crate) fn before_line(fault: NestFault) -> &'static str
+    ensures { result.now ≡ before_line fault }
+{
+    match fault {
+        NestFault::NoLoop => "one lane: line ",
+        _ => "one lane: the loop at line ",
+    }
+}
+
+/// What is said of that line.
+pub(crate) fn why(fault: NestFault) -> &'static str
+    ensures { result.now ≡ why fault }
+{
+    match fault {
+        NestFault::NoLoop => " stands in no loop",
+        NestFault::Loops => " has loops side by side, or beside operations",
+        NestFault::Stores => " stores more than 256 times in a round",
+        NestFault::Rounds => " has rounds that are no multiple of the lanes",
+        NestFault::Registers => " reads registers that its round has not put",
+        NestFault::Places => " loads or stores words that do not stand side by side",
+    }
+}
+
+// The row of a text of one lane, where several were asked for.
+fn row_of_one_lane(line: u64, fault: NestFault) -> StatusRow
+    ensures { plain_row result ≡ row_of (Status.OneLane line fault) }
+{
+    StatusRow::new(0, &[(before_line(fault), Some(line)), (why(fault), None)])
+}
 
 impl Status {
     // The row of a status.
@@ -16,6 +48,8 @@ impl Status {
     {
         match *self {
             Self::Success => row! { 0 },
+            Self::OneLane { line, fault } => row_of_one_lane(line, fault),
+            Self::OneLaneOfRegisters => row! { 0 "one lane: more than 349525 registers" },
             Self::Usage =>
                 row! { 2 "usage: spiral_fast [--words 16|32|52|64] [--lanes 2|4|8|16] [--name NAME [--header]] < LISTING > TEXT (reads a listing, writes C)" },
             Self::ReadFault => row! { 10 "read failed" },

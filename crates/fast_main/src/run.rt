@@ -8,14 +8,15 @@ ghost use Rattle.word_code.specs.Laziness.{allows, size_for};
 ghost use Rattle.word_code.specs.Views.{plain_word_program};
 ghost use Rattle.fast_text.specs.TextForm.{text_form};
 ghost use Rattle.fast_main.specs.Options.Views.{plain_options};
-ghost use Rattle.fast_main.specs.Outcome.{IsRefused, IsTranslated, IsInside, IsDefined};
+ghost use Rattle.fast_main.specs.Outcome.{IsRefused, EndsAs, IsInside, IsDefined, IsDone, IsGood, HasFailed};
 ghost use Rattle.fast_main.specs.Outcome.{AreJudged, HasReadListing};
 ghost use Rattle.fast_main.specs.Outcome.{AccountsFor, Notes};
 ghost use Rattle.fast_main.specs.Status.{note_line, status_of};
 ghost use Rattle.fast_main.specs.Options.Asked.{IsLaneCount};
-ghost use Rattle.fast_main.specs.Translation.{writer_in, fast_text, AreSoundWords, IsReadBack, IsWritten, KeepsInput};
+ghost use Rattle.fast_main.specs.Translation.{writer_in, ending_of, written_text, AreSoundWords, IsReadBack, IsWritten, KeepsInput};
 
 use crate::Status;
+use crate::first_line::with_first_line;
 use crate::options::{Options, options_of};
 use crate::prepare::prepare;
 use crate::rows::write_note;
@@ -46,22 +47,32 @@ fn writer_in(form: Form<'_>, words: &WordProgram) -> Option<u64>
     }
 }
 
+/// A C text, and how a call ends that writes it.
+#[derive(Drop)]
+struct Answer {
+    text: Vec<u8>,
+    ending: Status,
+}
+
 // The C text of a program that is asked for, in words of the size that was chosen.
-fn fast_text_of(
+fn answer_of(
     alloc: Global,
     options: Options<'_>,
     size: WordSize,
     program: Program,
-) -> Result<Vec<u8>, Status>
+) -> Result<Answer, Status>
     requires fits { Fits program }
     requires apart { (phase : ℕ) → IsApart (code_of program) phase }
     requires allowed { IsTrue (allows size program.modulus) }
     requires lanes { IsLaneCount options.lanes }
     requires size { size ≡ size_for options.size (plain_program program) }
     ensures text { IfOk result
-        (λ text. text.items ≡ fast_text (plain_options options.entry) (plain_program program)) }
+        (λ made. made.text.items ≡ written_text (plain_options options.entry) (plain_program program)) }
+    ensures ending { IfOk result
+        (λ made. made.ending ≡ ending_of options.entry.lanes (plain_program program)) }
+    ensures done { IfOk result (λ made. IsDone made.ending) }
     ensures read_back { IfOk result
-        (λ text. IsReadBack (plain_options options.entry) (plain_program program) text.items) }
+        (λ made. IsReadBack (plain_options options.entry) (plain_program program) made.text.items) }
     ensures keeps { IfOk result
         (λ _. KeepsInput (plain_options options.entry) (plain_program program)) }
     ensures sound { IfOk result
@@ -70,22 +81,27 @@ fn fast_text_of(
         → IsWritten (plain_options options.entry) (plain_program program) status) }
     ensures inside { IfErr result (λ status. IsInside status) }
 {
-    let program = prepare(alloc, size, options.lanes, program)?;
-    let fresh = is_fresh(alloc, &program)?;
-    let words = make_fast(alloc, size, &program)?;
-    let words = work_in_place(alloc, &program, words)?;
+    let prepared = prepare(alloc, size, options.lanes, program)?;
+    let fresh = is_fresh(alloc, &prepared.program)?;
+    let words = make_fast(alloc, size, &prepared.program)?;
+    let words = work_in_place(alloc, &prepared.program, words)?;
     if let Some(phase) = writer_in(options.form, &words) {
         return Err(Status::InputWritten { phase });
     }
-    let text = print_words(alloc, options.form, fresh, &words)?;
-    Ok(text)
+    let printed = print_words(alloc, options.form, fresh, &words)?;
+    let text = with_first_line(alloc, prepared.ending, printed)?;
+    Ok(Answer {
+        text,
+        ending: prepared.ending,
+    })
 }
 
 // The C text that is asked for, of the bytes of a listing.
-fn text_of(alloc: Global, options: Options<'_>, listing: &[u8]) -> Result<Vec<u8>, Status>
+fn answer_to(alloc: Global, options: Options<'_>, listing: &[u8]) -> Result<Answer, Status>
     requires { IsLaneCount options.lanes }
     ensures text { IfOk result
-        (λ text. IsTranslated (plain_options options.entry) listing.now text.items) }
+        (λ made. EndsAs (plain_options options.entry) listing.now made.ending made.text.items) }
+    ensures done { IfOk result (λ made. IsDone made.ending) }
     ensures refused { IfErr result
         (λ status. IsDefined status → IsRefused (plain_options options.entry) listing.now status) }
     ensures inside { IfErr result (λ status. IsInside status) }
@@ -98,8 +114,8 @@ fn text_of(alloc: Global, options: Options<'_>, listing: &[u8]) -> Result<Vec<u8
             bits: bits_of(size),
         });
     }
-    let text = fast_text_of(alloc, options, size, program)?;
-    Ok(text)
+    let answer = answer_of(alloc, options, size, program)?;
+    Ok(answer)
 }
 
 // Does what the words and the input ask for.
@@ -108,38 +124,39 @@ fn work<I: Source, O: Sink>(
     words: &Vec<String>,
     input: &mut I,
     output: &mut O,
-) -> Result<(), Status>
+) -> Result<Status, Status>
     ensures told { AccountsFor (map string_bytes words.now.items) (I.left input.old)
         (I.left input.new) (O.taken output.old) (O.taken output.new) (status_of result) }
     ensures words { AreJudged (map string_bytes words.now.items) (status_of result) }
-    ensures end { status_of result ≡ Status.Success
+    ensures end { IsGood (status_of result)
         → HasReadListing (I.left input.old) (I.left input.new) }
     ensures read { Reports (I.faults input.old) (I.faults input.new)
         (status_of result ≡ Status.ReadFault) }
     ensures write { Reports (O.faults output.old) (O.faults output.new)
         (status_of result ≡ Status.WriteFault) }
-    ensures nothing { status_of result ≢ Status.Success → status_of result ≢ Status.WriteFault
+    ensures nothing { HasFailed (status_of result) → status_of result ≢ Status.WriteFault
         → Appends (O.taken output.old) (O.taken output.new) [] }
 {
     let options = options_of(alloc, words)?;
     let mut feed = Feed::new(alloc)?;
     let listing = read_part(alloc, &mut feed, input, LISTING_LIMIT)?;
-    let text = text_of(alloc, options, &listing)?;
-    write_all(output, &text)?;
-    Ok(())
+    let made = answer_to(alloc, options, &listing)?;
+    write_all(output, &made.text)?;
+    Ok(made.ending)
 }
 
 // The status that a call ends with.
-fn ending(ended: Result<(), Status>) -> Status
+fn ending(ended: Result<Status, Status>) -> Status
     ensures { result ≡ status_of ended }
 {
     match ended {
-        Ok(()) => Status::Success,
+        Ok(status) => status,
         Err(status) => status,
     }
 }
 
-/// Writes the fast C text of the listing on the input, and says in the note why not if it doesn't.
+/// Writes the fast C text of the listing on the input, and says in the note why not if it doesn't, or why it is of one lane if
+/// several were asked for.
 ///
 /// The words are the program's name and options. The lines before the first empty line of the input are a listing, as
 /// `spiral code` writes it, of at most [`LISTING_LIMIT`] bytes, and are verified first.
@@ -156,8 +173,8 @@ pub fn fast_run<I: Source, O: Sink, E: Sink>(
         (I.left input.new) (O.taken output.old) (O.taken output.new) result }
     // The words alone tell whether they are a call's.
     ensures words { AreJudged (map string_bytes words.now.items) result }
-    // A call that succeeds has read its listing to its end.
-    ensures end { result ≡ Status.Success → HasReadListing (I.left input.old) (I.left input.new) }
+    // A call that writes its text has read its listing to its end.
+    ensures end { IsGood result → HasReadListing (I.left input.old) (I.left input.new) }
 
     // A fault has its cause and is not swallowed, also where nothing is told.
     ensures read { Reports (I.faults input.old) (I.faults input.new) (result ≡ Status.ReadFault) }
@@ -165,7 +182,7 @@ pub fn fast_run<I: Source, O: Sink, E: Sink>(
         (result ≡ Status.WriteFault) }
 
     // Nothing is written on a refusal.
-    ensures nothing { result ≢ Status.Success → result ≢ Status.WriteFault
+    ensures nothing { HasFailed result → result ≢ Status.WriteFault
         → Appends (O.taken output.old) (O.taken output.new) [] }
     ensures note { Notes (E.taken note.old) (E.taken note.new) (E.faults note.old)
         (E.faults note.new) (note_line result) }

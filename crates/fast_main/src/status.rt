@@ -5,12 +5,21 @@ use code_check::CheckFault;
 use data_stream::RestFault;
 use io_edge::WriteFault;
 use listing_text::ListingFault;
+use loop_lanes::NestFault;
 use memory::NoMemory;
 
 /// How a call ended.
 #[derive(Clone, Copy, Debug, PartialEq, Eq)]
 pub enum Status {
     Success,
+    /// The text was written. It stays at one lane, since the statement that begins at this line of the listing cannot be
+    /// put on lanes.
+    OneLane {
+        line: u64,
+        fault: NestFault,
+    },
+    /// The text was written. It stays at one lane, since the program has too many registers for several.
+    OneLaneOfRegisters,
     /// The words are no call's.
     Usage,
     /// The input is no listing: some listing begins with the lines before this one, and none with this line too.

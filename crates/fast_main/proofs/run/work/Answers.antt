@@ -33,19 +33,19 @@ returns-in_err-listing-clause-words g c =
     let p = err_from_is_err_and c.from_residual-in_err-listing.result c.from_residual-in_err-listing.ensures.1 in
     rw (p.1, p.2) (judged _ (plain_options c.in_ok-options.options) (g.O.Sink.taken c.args.output.now) c.in_ok-options.ensures.ok _ (rest_is_no_usage c.in_err-listing.field-0.0))
 
-pub returns-in_err-text-clause-told : goal.returns-in_err-text-clause-told
-returns-in_err-text-clause-told g c =
+pub returns-in_err-made-clause-told : goal.returns-in_err-made-clause-told
+returns-in_err-made-clause-told g c =
     let told = g.I.Source.left c.args.input.now in
     let left = g.I.Source.left c.read_part.new.source in
     let read = has_read told left c.in_ok-feed.feed c.read_part.new.feed c.deref.result.now c.in_ok-listing.listing c.in_ok-feed.ensures c.deref.ensures.value c.in_ok-listing.ensures.answer in
-    let p = err_from_is_err_and c.from_residual-in_err-text.result c.from_residual-in_err-text.ensures.1 in
+    let p = err_from_is_err_and c.from_residual-in_err-made.result c.from_residual-in_err-made.ensures.1 in
     rw (p.1, p.2) (told_refused _ (plain_options c.in_ok-options.options) (g.O.Sink.taken c.args.output.now) c.in_ok-options.ensures.ok told left c.read_part.new.feed c.deref.result.now read
-    c.in_err-text.field-0.0 c.in_err-text.ensures.refused c.in_err-text.ensures.inside)
+    c.in_err-made.field-0.0 c.in_err-made.ensures.refused c.in_err-made.ensures.inside)
 
-pub returns-in_err-text-clause-words : goal.returns-in_err-text-clause-words
-returns-in_err-text-clause-words g c =
-    let p = err_from_is_err_and c.from_residual-in_err-text.result c.from_residual-in_err-text.ensures.1 in
-    rw (p.1, p.2) (judged _ (plain_options c.in_ok-options.options) (g.O.Sink.taken c.args.output.now) c.in_ok-options.ensures.ok _ c.in_err-text.ensures.inside.usage)
+pub returns-in_err-made-clause-words : goal.returns-in_err-made-clause-words
+returns-in_err-made-clause-words g c =
+    let p = err_from_is_err_and c.from_residual-in_err-made.result c.from_residual-in_err-made.ensures.1 in
+    rw (p.1, p.2) (judged _ (plain_options c.in_ok-options.options) (g.O.Sink.taken c.args.output.now) c.in_ok-options.ensures.ok _ c.in_err-made.ensures.inside.usage)
 
 pub returns-in_err-write_all-clause-told : goal.returns-in_err-write_all-clause-told
 returns-in_err-write_all-clause-told g c =
@@ -55,7 +55,7 @@ returns-in_err-write_all-clause-told g c =
     let p = err_from_is_err_and c.from_residual-in_err-write_all.result c.from_residual-in_err-write_all.ensures.1 in
     let wrote = rw c.deref-2.ensures.value at c.in_err-write_all.ensures.bytes in
     rw (p.1, p.2) (told_cut _ (plain_options c.in_ok-options.options) (g.O.Sink.taken c.args.output.now) c.in_ok-options.ensures.ok told left c.read_part.new.feed c.deref.result.now read
-    (g.O.Sink.taken c.write_all.new.sink) c.in_ok-text.text.items c.in_ok-text.ensures.text wrote)
+    (g.O.Sink.taken c.write_all.new.sink) c.in_ok-made.made.text.items c.in_ok-made.made.ending c.in_ok-made.ensures.text c.in_ok-made.ensures.done wrote)
 
 pub returns-clause-told : goal.returns-clause-told
 returns-clause-told g c =
@@ -64,7 +64,7 @@ returns-clause-told g c =
     let read = has_read told left c.in_ok-feed.feed c.read_part.new.feed c.deref.result.now c.in_ok-listing.listing c.in_ok-feed.ensures c.deref.ensures.value c.in_ok-listing.ensures.answer in
     let wrote = rw c.deref-2.ensures.value at c.in_ok-write_all.ensures.bytes in
     told_whole _ (plain_options c.in_ok-options.options) (g.O.Sink.taken c.args.output.now) c.in_ok-options.ensures.ok told left c.read_part.new.feed c.deref.result.now read
-    (g.O.Sink.taken c.write_all.new.sink) c.in_ok-text.text.items c.in_ok-text.ensures.text wrote
+    (g.O.Sink.taken c.write_all.new.sink) c.in_ok-made.made.text.items c.in_ok-made.made.ending c.in_ok-made.ensures.text c.in_ok-made.ensures.done wrote
 
 pub returns-clause-end : goal.returns-clause-end
 returns-clause-end g c =
@@ -77,3 +77,7 @@ pub returns-in_err-feed-clause-told : goal.returns-in_err-feed-clause-told
 returns-in_err-feed-clause-told g c =
     let p = err_from_is_err_and c.from_residual-in_err-feed.result c.from_residual-in_err-feed.ensures.1 in
     rw (p.1, p.2) (told_no_words _ _ _ refusal.NoMemory (λ e. absurd (cc)))
+
+pub returns-clause-words : goal.returns-clause-words
+returns-clause-words g c =
+    judged _ (plain_options c.in_ok-options.options) (g.O.Sink.taken c.args.output.now) c.in_ok-options.ensures.ok _ c.in_ok-made.ensures.done.usage
