@@ -77,7 +77,7 @@ AT_ONE = (
     ("side by side", 0, "one lane: the loop at line 7 has loops side by side, or beside operations"),
     ("stores", 0, "one lane: the loop at line 7 stores more than 256 times in a round"),
     ("rounds", 0, "one lane: the loop at line 7 has rounds that are no multiple of the lanes"),
-    ("registers", 0, "one lane: the loop at line 7 reads registers that its round has not put"),
+    ("registers", 0, "one lane: the loop at line 7 has registers out of order, or reads one that its round has not put"),
     ("places", 0, "one lane: the loop at line 7 loads or stores words that do not stand side by side"),
     ("many registers", 0, "one lane: more than 349525 registers"),
     ("phases", 0, "one lane: line 14 stands in no loop"),

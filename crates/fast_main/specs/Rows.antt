@@ -19,7 +19,7 @@ why NoLoop = codes " stands in no loop"
 why Loops = codes " has loops side by side, or beside operations"
 why Stores = codes " stores more than 256 times in a round"
 why Rounds = codes " has rounds that are no multiple of the lanes"
-why Registers = codes " reads registers that its round has not put"
+why Registers = codes " has registers out of order, or reads one that its round has not put"
 why Places = codes " loads or stores words that do not stand side by side"
 
 abbrev pub row_of : Status → PlainRow
