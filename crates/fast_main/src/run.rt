@@ -97,7 +97,6 @@ fn answer_of(
 }
 
 // The C text that is asked for, of the bytes of a listing.
-#[tactic(auto, using(crate::proofs::Ends::ends_as))]
 fn answer_to(alloc: Global, options: Options<'_>, listing: &[u8]) -> Result<Answer, Status>
     requires { IsLaneCount options.lanes }
     ensures text { IfOk result
