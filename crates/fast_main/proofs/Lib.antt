@@ -7,5 +7,6 @@ pub mod Rerouted
 pub mod Once
 pub mod Told
 pub mod FirstLine
+pub mod Ends
 pub mod OneLane
 pub mod SameLines

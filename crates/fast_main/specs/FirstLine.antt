@@ -1,5 +1,5 @@
 -- The comment that stands before a text of one lane, where several were asked for.
-use Rattle.std.specs.Prelude.{ℕ, ◌==◌, List, [], ◌∷◌, codes, if◌then◌else◌}
+use Rattle.std.specs.Prelude.{ℕ, ◌==◌, ◌&&◌, List, [], ◌∷◌, codes, if◌then◌else◌}
 use Rattle.io_edge.specs.Status.Rows.{line_of}
 use Rattle.fast_main.specs.declared.status.Status.{Status}
 use Rattle.fast_main.specs.declared.status.Status.TheVariants.{OneLane, OneLaneOfRegisters}
@@ -18,5 +18,5 @@ behind_line (byte ∷ text) = if byte == 10 then text else behind_line text
 
 -- a text without the comment of C that is its first line, if there is one: from // to the end of the line
 abbrev pub without_comment : List ℕ → List ℕ
-without_comment (47 ∷ 47 ∷ text) = behind_line text
+without_comment (x ∷ y ∷ text) = if (x == 47) && (y == 47) then behind_line text else x ∷ y ∷ text
 without_comment text = text

@@ -29,7 +29,8 @@ pub(crate) fn why(fault: NestFault) -> &'static str
         NestFault::Loops => " has loops side by side, or beside operations",
         NestFault::Stores => " stores more than 256 times in a round",
         NestFault::Rounds => " has rounds that are no multiple of the lanes",
-        NestFault::Registers => " has registers out of order, or reads one that its round has not put",
+        NestFault::Registers =>
+            " has registers out of order, or reads one that its round has not put",
         NestFault::Places => " loads or stores words that do not stand side by side",
     }
 }
