@@ -36,7 +36,8 @@ pub(crate) fn in_capitals(alloc: Global, name: &[u8]) -> Result<Vec<u8>, NoMemor
     Ok(text)
 }
 
-fn put_macro(
+/// Writes a macro of a number, whose name is in capitals and ends with the word.
+pub(crate) fn put_macro(
     out: &mut Vec<u8>,
     capitals: &[u8],
     word: &[u8],
@@ -246,8 +247,8 @@ fn put_functions_of(
     put_word(out, b"#ifdef __cplusplus\n}\n#endif\n#endif\n")
 }
 
-// The type of words that have a base with this square root.
-fn word_type(half: u64) -> &'static str
+/// The type of words that have a base with this square root.
+pub(crate) fn word_type(half: u64) -> &'static str
     ensures { result.now ≡ word_type_text half }
 {
     match half {

@@ -41,5 +41,7 @@ pub(crate) fn fast_app<'a>(alloc: Global) -> Result<Command<'a>, AllocError>
     let name = option(alloc, "name");
     let named = laned.arg(name)?;
     let header = flag(alloc, "header");
-    named.arg(header)
+    let headed = named.arg(header)?;
+    let times = flag(alloc, "times");
+    headed.arg(times)
 }
