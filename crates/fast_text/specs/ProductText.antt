@@ -1,7 +1,7 @@
 -- The C text of products of residues, place by place: a function to link by itself, and its header.
-use Rattle.std.specs.Prelude.{ℕ, List, ◌++◌, codes, map}
+use Rattle.std.specs.Prelude.{ℕ, List, ◌++◌, codes}
 use Rattle.listing_text.specs.Numbers.{numbered_text}
-use Rattle.fast_text.specs.FunctionText.{capital, linkage_text, macro_text}
+use Rattle.fast_text.specs.FunctionText.{macro_text}
 
 -- the high and the low half of a product of two words, of which neither has a quotient
 unfoldable pub halves_text : List ℕ
@@ -28,9 +28,9 @@ one_lane_halves_text =
     ++ codes "INLINE vec highs(vec a, vec b) { return high_half(a, b); }\n"
     ++ codes "INLINE vec lows(vec a, vec b) { return low_half(a, b); }\n"
 
--- of registers in parts: halves of 64 bits are made of four partial products
-unfoldable pub part_halves_text : List ℕ
-part_halves_text =
+-- of registers in parts, in words of 52 bits
+unfoldable pub part_halves_of_52_text : List ℕ
+part_halves_of_52_text =
     codes "#elif defined PARTS\n"
     ++ codes "#if HALF == 67108864 && defined FMA\n"
     ++ codes "INLINE part highs_part(part a, part b) { part none = {}; return FMA(hi, none, a, b); }\n"
@@ -40,7 +40,11 @@ part_halves_text =
     ++ codes "part a1 = a >> 26, a0 = a & PART, b1 = b >> 26, b0 = b & PART;\n"
     ++ codes "return low(a1, b1) + ((low(a1, b0) + low(a0, b1) + (low(a0, b0) >> 26)) >> 26); }\n"
     ++ codes "INLINE part lows_part(part a, part b) { return a * b & LOW52; }\n"
-    ++ codes "#elif HALF == 4294967296\n"
+
+-- and in other words: halves of 64 bits are made of four partial products
+unfoldable pub part_halves_text : List ℕ
+part_halves_text =
+    codes "#elif HALF == 4294967296\n"
     ++ codes "INLINE part highs_part(part a, part b) {\n"
     ++ codes "part a1 = a >> 32, b1 = b >> 32, x = low(a1, b), y = low(a, b1);\n"
     ++ codes "part carried = (low(a, b) >> 32) + (x & 0xffffffffULL) + (y & 0xffffffffULL);\n"
@@ -77,7 +81,8 @@ times_text =
 
 -- what products of registers do, whatever the program
 unfoldable pub products_text : List ℕ
-products_text = halves_text ++ one_lane_halves_text ++ part_halves_text ++ lane_halves_text ++ times_text
+products_text =
+    halves_text ++ one_lane_halves_text ++ part_halves_of_52_text ++ part_halves_text ++ lane_halves_text ++ times_text
 
 -- where CHECK is defined, the function stops at a word that is too large
 unfoldable pub factors_check_text : ℕ → List ℕ
@@ -125,10 +130,3 @@ abbrev pub product_macros_text : List ℕ → ℕ → ℕ → List ℕ
 product_macros_text capitals size modulus =
     macro_text capitals (codes "_TIMES_SIZE ") size (codes "\n")
     ++ macro_text capitals (codes "_TIMES_MODULUS ") modulus (codes "ULL\n")
-
--- of words of this type
-abbrev pub product_header_text : List ℕ → List ℕ → ℕ → ℕ → List ℕ
-product_header_text name type size modulus =
-    let capitals = map capital name in
-    product_guard_text capitals ++ product_macros_text capitals size modulus
-    ++ linkage_text (product_asked_text capitals name ++ declared_product_text name type)

@@ -12,7 +12,8 @@ use Rattle.word_code.specs.declared.program.Reduction.{Reduction}
 use Rattle.word_code.specs.WordProgram.{Note, WordStmt, WordBody, PlainWordProgram, Loop, Do, NoStmts, AndStmts}
 use Rattle.fast_text.specs.WordFront.{functions_text, sizes_text, arrays_text}
 use Rattle.fast_text.specs.FirstValues.{first_values_text, own_arrays_text, callers_arrays_text}
-use Rattle.fast_text.specs.ProductText.{products_text, product_function_text, product_header_text}
+use Rattle.fast_text.specs.ProductText.{products_text, product_function_text, product_guard_text}
+use Rattle.fast_text.specs.ProductText.{product_macros_text, product_asked_text, declared_product_text}
 use Rattle.fast_text.specs.TextForm.{TextForm, with_arrays, named_function, named_header, named_product}
 use Rattle.fast_text.specs.TextForm.{named_product_header}
 use Rattle.fast_text.specs.FunctionText.{each_from, static_phase_text, parameters_text}
@@ -208,8 +209,10 @@ named_product_text name p =
 
 abbrev pub named_product_header_text : List ℕ → PlainWordProgram → List ℕ
 named_product_header_text name p =
-    word_header_text p
-    ++ product_header_text name (word_type_text p.width.half) p.frame.size p.frame.modulus
+    let capitals = map capital name in
+    word_header_text p ++ product_guard_text capitals
+    ++ product_macros_text capitals p.frame.size p.frame.modulus
+    ++ linkage_text (product_asked_text capitals name ++ declared_product_text name (word_type_text p.width.half))
 
 -- of a program that may read what is left over, or that does not
 abbrev pub words_text : TextForm → Bool → PlainWordProgram → List ℕ

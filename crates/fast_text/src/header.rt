@@ -124,7 +124,8 @@ pub(crate) fn put_counts(
     put_macro(out, capitals, b"_PHASES ", phases, b"\n")
 }
 
-fn put_named(out: &mut Vec<u8>, name: &[u8], text: &[u8]) -> Result<(), AllocError>
+/// Writes a name, and what comes behind it.
+pub(crate) fn put_named(out: &mut Vec<u8>, name: &[u8], text: &[u8]) -> Result<(), AllocError>
     ensures { OnOk result (out.new.items ≡ out.old.items ++ (name.now ++ text.now)) }
 {
     put_word(out, name)?;

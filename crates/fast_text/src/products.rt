@@ -4,9 +4,9 @@
 
 ghost use Rattle.std.specs.Prelude.{◌≡◌, ◌++◌, OnOk};
 ghost use Rattle.fast_text.specs.FunctionText.{linkage_text, word_type_text};
-ghost use Rattle.fast_text.specs.ProductText.{halves_text, one_lane_halves_text, part_halves_text, lane_halves_text, times_text, products_text, factors_check_text, each_product_text, product_function_text, product_asked_text, declared_product_text, product_guard_text, product_macros_text};
+ghost use Rattle.fast_text.specs.ProductText.{halves_text, one_lane_halves_text, part_halves_of_52_text, part_halves_text, lane_halves_text, times_text, products_text, factors_check_text, each_product_text, product_function_text, product_asked_text, declared_product_text, product_guard_text, product_macros_text};
 
-use crate::header::{put_macro, word_type};
+use crate::header::{put_macro, put_named, word_type};
 use listing_text::{put_numbered, put_word};
 use std::alloc::AllocError;
 
@@ -47,10 +47,10 @@ INLINE vec lows(vec a, vec b) { return low_half(a, b); }
     )
 }
 
-// Of registers in parts: halves of 64 bits are made of four partial products.
-#[tactic(auto, unfolding(crate::specs::ProductText::part_halves_text))]
-fn put_part_halves(out: &mut Vec<u8>) -> Result<(), AllocError>
-    ensures { OnOk result (out.new.items ≡ out.old.items ++ part_halves_text) }
+// Of registers in parts, in words of 52 bits.
+#[tactic(auto, unfolding(crate::specs::ProductText::part_halves_of_52_text))]
+fn put_part_halves_of_52(out: &mut Vec<u8>) -> Result<(), AllocError>
+    ensures { OnOk result (out.new.items ≡ out.old.items ++ part_halves_of_52_text) }
 {
     out.extend_from_slice(
         b"#elif defined PARTS
@@ -62,7 +62,17 @@ INLINE part highs_part(part a, part b) {
 part a1 = a >> 26, a0 = a & PART, b1 = b >> 26, b0 = b & PART;
 return low(a1, b1) + ((low(a1, b0) + low(a0, b1) + (low(a0, b0) >> 26)) >> 26); }
 INLINE part lows_part(part a, part b) { return a * b & LOW52; }
-#elif HALF == 4294967296
+",
+    )
+}
+
+// And in other words: halves of 64 bits are made of four partial products.
+#[tactic(auto, unfolding(crate::specs::ProductText::part_halves_text))]
+fn put_part_halves(out: &mut Vec<u8>) -> Result<(), AllocError>
+    ensures { OnOk result (out.new.items ≡ out.old.items ++ part_halves_text) }
+{
+    out.extend_from_slice(
+        b"#elif HALF == 4294967296
 INLINE part highs_part(part a, part b) {
 part a1 = a >> 32, b1 = b >> 32, x = low(a1, b), y = low(a, b1);
 part carried = (low(a, b) >> 32) + (x & 0xffffffffULL) + (y & 0xffffffffULL);
@@ -119,6 +129,7 @@ pub(crate) fn put_products(out: &mut Vec<u8>) -> Result<(), AllocError>
 {
     put_halves(out)?;
     put_one_lane_halves(out)?;
+    put_part_halves_of_52(out)?;
     put_part_halves(out)?;
     put_lane_halves(out)?;
     put_times(out)
@@ -223,18 +234,16 @@ fn put_product_asked(out: &mut Vec<u8>, capitals: &[u8], name: &[u8]) -> Result<
         out,
         b"_times multiplies place by place: word k of out becomes a[k] * b[k] modulo ",
     )?;
-    put_word(out, capitals)?;
-    put_word(out, b"_TIMES_MODULUS, for k below\n * ")?;
-    put_word(out, capitals)?;
-    put_word(out, b"_TIMES_SIZE.\n * a, b: words below ")?;
-    put_word(out, capitals)?;
-    put_word(
+    put_named(out, capitals, b"_TIMES_MODULUS, for k below\n * ")?;
+    put_named(out, capitals, b"_TIMES_SIZE.\n * a, b: words below ")?;
+    put_named(
         out,
+        capitals,
         b"_TIMES_MODULUS. With -DCHECK the function stops at a greater one.\n * out: words below ",
     )?;
-    put_word(out, capitals)?;
-    put_word(
+    put_named(
         out,
+        capitals,
         b"_TIMES_MODULUS. It may be a or b, and else overlaps neither. */\n",
     )
 }

@@ -1,4 +1,4 @@
-use Rattle.std.proofs.Common.{◌≡◌, ◌++◌, ℕ, List, ap, map, ◌∙◌}
+use Rattle.std.proofs.Common.{◌≡◌, ◌++◌, ◌==◌, ℕ, List, ap, map, ◌∙◌}
 use Rattle.word_code.specs.Views.{plain_word_program}
 use Rattle.fast_text.specs.FunctionText.{capital, linkage_text, word_type_text}
 use Rattle.fast_text.specs.ProductText.{product_guard_text, product_macros_text, product_asked_text, declared_product_text}
