@@ -16,7 +16,7 @@ import tempfile
 TOP = os.path.dirname(os.path.dirname(os.path.abspath(__file__)))
 os.environ["PATH"] = f"{TOP}/bin{os.pathsep}{os.environ['PATH']}"
 USAGE = (
-    "usage: spiral_fast [--words 16|32|52|64] [--lanes 2|4|8|16] [--name NAME [--header]] < LISTING > TEXT "
+    "usage: spiral_fast [--words 16|32|52|64] [--lanes 2|4|8|16] [--name NAME [--times] [--header]] < LISTING > TEXT "
     "(reads a listing, writes C)"
 )
 
@@ -99,6 +99,10 @@ ROWS = (
     ("good", "--name", 2, USAGE),
     ("good", "--name a --name b", 2, USAGE),
     ("good", "--header", 2, USAGE),
+    ("good", "--times", 2, USAGE),
+    ("good", "--times --header", 2, USAGE),
+    ("good", "--name a --times --times", 2, USAGE),
+    ("good", "--name 1 --times", 2, USAGE),
     ("good", "--name a --header --header", 2, USAGE),
     ("good", "--names a", 2, USAGE),
     ("good", "--help", 2, USAGE),
@@ -127,6 +131,11 @@ ROWS = (
     # its stores
     ("writing", "", 0, ""),
     ("writing", "--name f", 25, "phase 1 stores into X, which is only read in a function"),
+    # products of its vectors read no input of it
+    ("writing", "--name f --times", 0, ""),
+    ("good", "--name f --times", 0, ""),
+    ("good", "--name f --times --header", 0, ""),
+    ("modulus of 52 bits", "--name f --times --words 52", 24, "modulus of more than 52-bit words"),
     ("writing", "--name f --header", 25, "phase 1 stores into X, which is only read in a function"),
     # why a text is of one lane, and nothing where it has several, or where none were asked for
     *((listing, words, status, line) for listing, status, line in AT_ONE for words in ("--lanes 4", "--lanes 8 --name f", "--lanes 2 --name f --header")),
@@ -201,14 +210,15 @@ def words_of(text):
 def compiles(listing, words, name):
     """What the compilers say of the function of this name and of its header, if it does not compile."""
     with tempfile.TemporaryDirectory() as folder:
-        for suffix, header in (("c", ()), ("h", ("--header",))):
-            with open(f"{folder}/{name}.{suffix}", "w") as file:
-                file.write(called((*words, "--name", name, *header), listing)[1])
+        for suffix, more in ((".c", ()), (".h", ("--header",)), ("_times.c", ("--times",)), ("_times.h", ("--times", "--header"))):
+            with open(f"{folder}/{name}{suffix}", "w") as file:
+                file.write(called((*words, "--name", name, *more), listing)[1])
         with open(f"{folder}/user.c", "w") as file:
-            file.write(f'#include "{name}.h"\n')
+            file.write(f'#include "{name}.h"\n#include "{name}_times.h"\n')
         for compiler in COMPILERS:
             strict = [compiler, "-std=gnu11", "-Wall", "-Wextra", "-Werror", "-Wno-psabi", "-fsyntax-only"]
-            done = subprocess.run([*strict, f"{folder}/{name}.c", f"{folder}/user.c"], capture_output=True, text=True)
+            files = [f"{folder}/{file}.c" for file in (name, f"{name}_times", "user")]
+            done = subprocess.run([*strict, *files], capture_output=True, text=True)
             if done.returncode != 0:
                 return f"--name {name}, {' '.join(words)}: {done.stderr[:500]}"
     return None

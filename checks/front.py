@@ -1,10 +1,10 @@
 #!/usr/bin/env python3
-"""Compares each function of a fast text's front with its definition.
+"""Compares each function of a fast text's front, and that of its products, with its definition.
 
     front.py
 
-The functions splat, load, store, add, sub, neg, mul, reduced and tile come from texts that spiral-fast writes of small
-listings: for words of 16, 32, 52 and 64 bits, for 1, 2, 3, 4, 8 and 16 lanes, and with rough and exact high halves. GCC and
+The functions splat, load, store, add, sub, neg, mul, reduced, times and tile come from texts that spiral-fast writes of
+small listings: for words of 16, 32, 52 and 64 bits, for 1, 2, 3, 4, 8 and 16 lanes, and with rough and exact high halves. GCC and
 Clang compile each text at -O0 and -O3, with each instruction set that the machine has, and GCC for AArch64 where it and
 qemu-aarch64 are there. The words are corners and many others.
 """
@@ -24,7 +24,7 @@ FAST = f"{HERE}/../bin/spiral-fast"
 LANES = (1, 2, 3, 4, 8, 16)
 BLOCK = 480  # words for each amount: a multiple of all these lanes
 ROUGH = "#define ROUGH 1\n", "#define ROUGH 0\n"
-FUNCTIONS = ("splat", "load and store", "add", "sub", "neg", "mul", "reduced", "tile")
+FUNCTIONS = ("splat", "load and store", "add", "sub", "neg", "mul", "reduced", "times", "tile")
 
 # Each with what runs its programs.
 COMPILERS = {"gcc": (), "clang": (), "aarch64-linux-gnu-gcc": ("qemu-aarch64", "-L", "/usr/aarch64-linux-gnu")}
@@ -79,7 +79,7 @@ PROGRAM = r"""
 #include <stdio.h>
 #include <stdlib.h>
 #include TEXT
-static word a[N], b[N], c[N], q[N], lower[N], out[N];
+static word a[N], b[N], c[N], q[N], lower[N], x[N], y[N], out[N];
 static void take(word *to) {
     static uint64_t whole[N];
     if (fread(whole, sizeof *whole, N, stdin) != N)
@@ -122,7 +122,7 @@ static void turned(void) {
 }
 #define EACH_VECTOR(from, to, e) for (int i = from; i < to; i += V) store(out + i, e)
 int main(void) {
-    take(a), take(b), take(c), take(q), take(lower);
+    take(a), take(b), take(c), take(q), take(lower), take(x), take(y);
     spread(), give();
     for (int i = 0; i < N; i += V)
         copied(out + i, a + i);
@@ -136,6 +136,8 @@ int main(void) {
     EACH_VECTOR(0, N, mul(load(a + i), load(c + i), load(q + i)));
     give();
     REDUCED
+    give();
+    EACH_VECTOR(0, N, times(load(x + i), load(y + i)));
     give();
     turned(), give();
 }
@@ -178,9 +180,11 @@ class Case:
                   for c, word in zip(self.c, mixed(rng, special, width.base, count))]
         self.lower = [word for k in self.amounts
                       for word in mixed(rng, [k - 1, k, *special], min(2 * k, width.sums), BLOCK)]
+        # residues to multiply
+        self.x, self.y = (mixed(rng, [0, 1, modulus - 1, *special], modulus, count) for _ in range(2))
 
     def words(self):
-        return b"".join(packed(words) for words in (self.a, self.b, self.c, self.q, self.lower))
+        return b"".join(packed(words) for words in (self.a, self.b, self.c, self.q, self.lower, self.x, self.y))
 
     def wanted(self):
         """The results of all functions but the last one."""
@@ -193,6 +197,7 @@ class Case:
             [width.sub(0, a, k) for a, k in zip(self.a, each)],
             [width.mul(self.modulus, a, c, q) for a, c, q in zip(self.a, self.c, self.q)],
             [width.reduced(a, k) for a, k in zip(self.lower, each)],
+            [x * y % self.modulus for x, y in zip(self.x, self.y)],
         ]
 
     def turned(self, lanes):
@@ -215,9 +220,9 @@ def packed(words):
 
 
 def text_of(width, modulus, lanes):
-    """The fast text of a listing of one copy. High halves are rough or not, as the width says."""
+    """The text of products of the vectors of a listing of one copy. High halves are rough or not, as the width says."""
     listing = f"program size {lanes} mod {modulus} procs 1 line 1 lanes {lanes} regs 1\nphase\nld r0 X[0]\nst Y[0] r0\nend\n"
-    done = subprocess.run([FAST, "--words", str(width.bits)], input=listing, capture_output=True, text=True)
+    done = subprocess.run([FAST, "--words", str(width.bits), "--name", "f", "--times"], input=listing, capture_output=True, text=True)
     if done.returncode != 0 or not any(line in done.stdout for line in ROUGH):
         sys.exit(f"front.py: no text of {lanes} lanes modulo {modulus}: {done.stderr}")
     return done.stdout.replace(ROUGH[width.rough], ROUGH[1 - width.rough])
@@ -256,7 +261,7 @@ def difference(case, lanes, got, wanted):
     place = next(k for k in range(0, len(got), 8) if got[k : k + 8] != wanted[k : k + 8]) // 8
     name, at = FUNCTIONS[place // case.count], place % case.count
     values = [int.from_bytes(words[8 * place : 8 * place + 8], "little") for words in (got, wanted)]
-    given = f"a {case.a[at]} b {case.b[at]} c {case.c[at]} q {case.q[at]} lower {case.lower[at]}"
+    given = f"a {case.a[at]} b {case.b[at]} c {case.c[at]} q {case.q[at]} lower {case.lower[at]} x {case.x[at]} y {case.y[at]}"
     return f"{name} at {at}, amount {case.amounts[at // BLOCK]}, {given}: {values[0]}, not {values[1]}"
 
 

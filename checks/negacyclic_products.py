@@ -61,6 +61,9 @@ PROGRAMS = [  # size, modulus, further words of the request, options of negacycl
     (256, 8380417, "lanes 8 unroll 16", "--twist 1753 --order reversed", ""),
     (4096, SIXTY_BITS, "lanes 4", "", ""),
     (1024, 1125899906826241, "unroll 16", "", "--words 52 --lanes 8"),
+    # rings of 4096 words, of 60 and of 50 bits
+    (4096, SIXTY_BITS, "unroll 16", "", "--lanes 8"),
+    (4096, 1125899906826241, "unroll 16", "", "--words 52 --lanes 8"),
     # the rings of Falcon and NewHope in words of 16 bits
     (512, 12289, "unroll 16", "", "--words 16 --lanes 16"),
     (1024, 12289, "lanes 16 unroll 16", "", "--words 16"),

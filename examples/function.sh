@@ -1,5 +1,5 @@
 #!/usr/bin/env bash
-# Writes a function of C and its header, NAME.c and NAME.h, of a listing on standard input.
+# Writes a function of C and its header, NAME.c and NAME.h, of a listing on standard input; with --times NAME_times.c and NAME_times.h.
 # usage: function.sh [FOLDER/]NAME [OPTION ..] <LISTING     with options of `spiral-fast`
 # The program is the `spiral-fast` of the path, or else that of bin/.
 set -euo pipefail
@@ -10,6 +10,9 @@ fi
 PATH=$PATH:$(cd "$(dirname "$0")/.." && pwd)/bin
 place=$1 name=${1##*/}
 shift
+for option; do
+  if [ "$option" = --times ]; then place+=_times; fi
+done
 listing=$(mktemp)
 trap 'rm -f "$listing"' EXIT
 cat >"$listing"

@@ -22,6 +22,7 @@ folder=$program.texts
 read -ra listing_options <<<"${LISTING_OPTIONS:-}"
 read -ra fast_options <<<"${FAST_OPTIONS:-}"
 mkdir -p "$folder"
+sources=("$folder"/{forward,back}.c)
 for name in forward back; do
   if [ -n "$kyber" ]; then
     "$here/kyber.py" "$name" | spiral compile --mod 3329
@@ -29,6 +30,11 @@ for name in forward back; do
     "$here/negacyclic.py" "$name" "$size" "$modulus" "$words" "${listing_options[@]}"
   fi | "$here/../function.sh" "$folder/$name" "${fast_options[@]}"
 done
+if [ -z "$kyber" ]; then
+  "$here/negacyclic.py" forward "$size" "$modulus" "$words" "${listing_options[@]}" |
+    "$here/../function.sh" "$folder/forward" --times "${fast_options[@]}"
+  sources+=("$folder/forward_times.c")
+fi
 word=$(sed -n 's/^void forward(\(uint[0-9]*_t\) .*/\1/p' "$folder/forward.h")
 exec "${CC:-cc}" -std=gnu11 -Wall -Wextra -Werror -Wno-psabi "${@:--O2}" ${kyber:+"$kyber"} -DWORD="$word" \
-  -I"$folder" "$here/negacyclic.c" "$folder"/{forward,back}.c -o "$program"
+  -I"$folder" "$here/negacyclic.c" "${sources[@]}" -o "$program"

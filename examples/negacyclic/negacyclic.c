@@ -1,19 +1,21 @@
 /*
  * Products of polynomials modulo x^N + 1: reads two vectors of N numbers for each, and writes the line of the product.
  *
- * forward.h and back.h are headers of `spiral-fast --name` for the two listings of negacyclic.py; with -DKYBER for
- * those that `spiral compile` makes of kyber.py's formulas. -DWORD=T is the type of their words. build.sh compiles all.
+ * forward.h and back.h are headers of `spiral-fast --name` for the two listings of negacyclic.py, and forward_times.h is
+ * that of `spiral-fast --name forward --times`. With -DKYBER there are only the first two, for what `spiral compile`
+ * makes of kyber.py's formulas. -DWORD=T is the type of their words. build.sh compiles all.
  */
 #include "back.h"
 #include "forward.h"
+#ifndef KYBER
+#include "forward_times.h"
+#endif
 
 #include <inttypes.h>
 #include <stdio.h>
 #include <stdlib.h>
 
 enum { SIZE = FORWARD_SIZE };
-
-__extension__ typedef unsigned __int128 double_word;
 
 struct product {
     _Alignas(64) WORD terms[FORWARD_WORDS];
@@ -22,11 +24,11 @@ struct product {
     _Alignas(64) WORD work[FORWARD_WORK];
 };
 
-static WORD times(WORD a, WORD b) {
-    return (WORD)((double_word)a * b % FORWARD_MODULUS);
-}
-
 #ifdef KYBER
+
+static WORD times(WORD a, WORD b) {
+    return (WORD)((uint32_t)a * b % FORWARD_MODULUS);
+}
 
 /* The powers 17^(2 * r(i) + 1) modulo 3329, where r turns the seven bits of i round. */
 static WORD gamma_of(size_t i) {
@@ -51,8 +53,7 @@ static void multiply_transforms(WORD *a, const WORD *b) {
 #else
 
 static void multiply_transforms(WORD *a, const WORD *b) {
-    for (size_t k = 0; k < SIZE; k++)
-        a[k] = times(a[k], b[k]);
+    forward_times(a, a, b);
 }
 
 #endif

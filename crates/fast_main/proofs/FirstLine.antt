@@ -9,7 +9,8 @@ use Rattle.std.proofs.lemmas.List.Folds.{list_all-append}
 use Rattle.loop_lanes.specs.declared.obstacles.NestFault.{NestFault}
 use Rattle.loop_lanes.specs.declared.obstacles.NestFault.TheVariants as nest
 use Rattle.word_code.specs.WordProgram.{PlainWordProgram}
-use Rattle.fast_text.specs.TextForm.{TextForm, with_arrays, named_function, named_header}
+use Rattle.fast_text.specs.TextForm.{TextForm, with_arrays, named_function, named_header, named_product}
+use Rattle.fast_text.specs.TextForm.{named_product_header}
 use Rattle.fast_text.specs.WordText.{words_text}
 use Rattle.fast_main.specs.declared.status.Status.{Status}
 use Rattle.fast_main.specs.declared.status.Status.TheVariants.{OneLane, OneLaneOfRegisters, Success}
@@ -89,6 +90,8 @@ not_commented : (form : TextForm) (fresh : Bool) (words : PlainWordProgram) →
 not_commented with_arrays fresh words = refl
 not_commented (named_function name) fresh words = refl
 not_commented (named_header name) fresh words = refl
+not_commented (named_product name) fresh words = refl
+not_commented (named_product_header name) fresh words = refl
 
 pub behind_first_line : (status : Status) (form : TextForm) (fresh : Bool) (words : PlainWordProgram) →
     without_comment (first_line status ++ words_text form fresh words) ≡ words_text form fresh words

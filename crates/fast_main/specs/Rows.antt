@@ -27,7 +27,7 @@ row_of Success = row 0 []
 row_of (OneLane line fault) = row 0 ((before_line fault, Some line) ∷ (why fault, None) ∷ [])
 row_of OneLaneOfRegisters = row 0 ((codes "one lane: more than 349525 registers", None) ∷ [])
 row_of Usage =
-    row 2 ((codes "usage: spiral_fast [--words 16|32|52|64] [--lanes 2|4|8|16] [--name NAME [--header]] < LISTING > TEXT (reads a listing, writes C)", None) ∷ [])
+    row 2 ((codes "usage: spiral_fast [--words 16|32|52|64] [--lanes 2|4|8|16] [--name NAME [--times] [--header]] < LISTING > TEXT (reads a listing, writes C)", None) ∷ [])
 row_of ReadFault = row 10 ((codes "read failed", None) ∷ [])
 row_of WriteFault = row 11 ((codes "write failed", None) ∷ [])
 row_of NoMemory = row 12 ((codes "out of memory", None) ∷ [])

@@ -29,7 +29,8 @@ use Rattle.word_code.specs.FreshWords.{word_results_among}
 use Rattle.word_code.specs.Input.{input_writer}
 use Rattle.word_code.specs.WordMachine.{under, word_results}
 use Rattle.word_code.specs.WordProgram.{PlainWordProgram, word_code}
-use Rattle.fast_text.specs.TextForm.{TextForm, with_arrays, named_function, named_header}
+use Rattle.fast_text.specs.TextForm.{TextForm, with_arrays, named_function, named_header, named_product}
+use Rattle.fast_text.specs.TextForm.{named_product_header}
 use Rattle.fast_text.specs.WordText.{words_text}
 use Rattle.fast_text.specs.WordTexts.{IsReadAs}
 use Rattle.fast_main.specs.declared.status.Status.{Status}
@@ -125,6 +126,8 @@ abbrev pub writer_in : TextForm → PlainWordProgram → Option ℕ
 writer_in with_arrays words = None
 writer_in (named_function name) words = input_writer words
 writer_in (named_header name) words = input_writer words
+writer_in (named_product name) words = None
+writer_in (named_product_header name) words = None
 
 -- the text that is asked for leaves its caller's input as it is
 abbrev pub KeepsInput : Asked → PlainProgram → Type 0

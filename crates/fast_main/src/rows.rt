@@ -52,7 +52,7 @@ impl Status {
             Self::OneLane { line, fault } => row_of_one_lane(line, fault),
             Self::OneLaneOfRegisters => row! { 0 "one lane: more than 349525 registers" },
             Self::Usage =>
-                row! { 2 "usage: spiral_fast [--words 16|32|52|64] [--lanes 2|4|8|16] [--name NAME [--header]] < LISTING > TEXT (reads a listing, writes C)" },
+                row! { 2 "usage: spiral_fast [--words 16|32|52|64] [--lanes 2|4|8|16] [--name NAME [--times] [--header]] < LISTING > TEXT (reads a listing, writes C)" },
             Self::ReadFault => row! { 10 "read failed" },
             Self::WriteFault => row! { 11 "write failed" },
             Self::NoMemory => row! { 12 "out of memory" },

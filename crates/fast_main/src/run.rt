@@ -44,6 +44,8 @@ fn writer_in(form: Form<'_>, words: &WordProgram) -> Option<u64>
         Form::Arrays => None,
         Form::Function { .. } => input_writer(words),
         Form::Header { .. } => input_writer(words),
+        Form::Product { .. } => None,
+        Form::ProductHeader { .. } => None,
     }
 }
 

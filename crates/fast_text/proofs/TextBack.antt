@@ -22,6 +22,7 @@ use Rattle.word_code.specs.WordProgram.{WordBody, PlainWordProgram}
 use Rattle.fast_text.specs.FunctionText.{static_phase_text, parameters_text, functions_to_link_text}
 use Rattle.fast_text.specs.FirstValues.{first_values_text, own_arrays_text, callers_arrays_text}
 use Rattle.fast_text.specs.TextForm.{TextForm, with_arrays, named_function, named_header}
+use Rattle.fast_text.specs.TextForm.{named_product, named_product_header}
 use Rattle.fast_text.specs.WordFront.{functions_text, sizes_text, rough_text, arrays_text}
 use Rattle.fast_text.specs.WordReading.{Front, table_at, phases_at, all_from_0, rough_words, sizes_of, front_at, words_of}
 use Rattle.fast_text.specs.WordReading.{either_of, own_first_values, callers_first_values, words_at}
@@ -203,6 +204,8 @@ module _ (p : PlainWordProgram) (s : IsSpellable p) where
     text_is_read with_arrays = is_read with_arrays arrays_back
     text_is_read (named_function name) = is_read (named_function name) (function_back name)
     text_is_read (named_header name) = tt
+    text_is_read (named_product name) = tt
+    text_is_read (named_product_header name) = tt
 
 -- ---- one text
 
@@ -223,6 +226,8 @@ read_once with_arrays has text fresh other p q one two =
 read_once (named_function name) has text fresh other p q one two =
     both_once (whole (words_at (named_function name)) text) fresh other p q one two
 read_once (named_header name) has text fresh other p q one two = absurd has
+read_once (named_product name) has text fresh other p q one two = absurd has
+read_once (named_product_header name) has text fresh other p q one two = absurd has
 
 -- two programs with the same text are the same
 pub texts_determine_words : (form : TextForm) → HasStatements form → (fresh other : Bool) (p q : PlainWordProgram) →

@@ -2,6 +2,7 @@ pub mod WordFront
 pub mod TextForm
 pub mod FunctionText
 pub mod FirstValues
+pub mod ProductText
 pub mod WordText
 pub mod WordNests
 pub mod WordReading

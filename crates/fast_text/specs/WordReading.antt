@@ -15,7 +15,8 @@ use Rattle.word_code.specs.declared.program.Reduction.{Reduction}
 use Rattle.word_code.specs.Words.{Width}
 use Rattle.word_code.specs.WordProgram.{WordBody, PlainWordProgram, Loop, Do, NoStmts, AndStmts}
 use Rattle.fast_text.specs.FunctionText.{each_from, static_phase_text, parameters_text, functions_to_link_text}
-use Rattle.fast_text.specs.TextForm.{TextForm, with_arrays, named_function, named_header}
+use Rattle.fast_text.specs.TextForm.{TextForm, with_arrays, named_function, named_header, named_product}
+use Rattle.fast_text.specs.TextForm.{named_product_header}
 use Rattle.fast_text.specs.FirstValues.{first_values_text, own_arrays_text, callers_arrays_text}
 use Rattle.fast_text.specs.WordFront.{functions_text, arrays_text}
 use Rattle.fast_text.specs.WordText.{sources_text, targets_text, entries_text, declared_text}
@@ -309,3 +310,5 @@ words_at (named_function name) = do
   _ ← word_at (functions_to_link_text name (words_in front.header) front.header.procs (length phases))
   pure_at (fresh, words_of front phases)
 words_at (named_header name) = refuse
+words_at (named_product name) = refuse
+words_at (named_product_header name) = refuse

@@ -12,7 +12,10 @@ use Rattle.word_code.specs.declared.program.Reduction.{Reduction}
 use Rattle.word_code.specs.WordProgram.{Note, WordStmt, WordBody, PlainWordProgram, Loop, Do, NoStmts, AndStmts}
 use Rattle.fast_text.specs.WordFront.{functions_text, sizes_text, arrays_text}
 use Rattle.fast_text.specs.FirstValues.{first_values_text, own_arrays_text, callers_arrays_text}
-use Rattle.fast_text.specs.TextForm.{TextForm, with_arrays, named_function, named_header}
+use Rattle.fast_text.specs.ProductText.{products_text, product_function_text, product_guard_text}
+use Rattle.fast_text.specs.ProductText.{product_macros_text, product_asked_text, declared_product_text}
+use Rattle.fast_text.specs.TextForm.{TextForm, with_arrays, named_function, named_header, named_product}
+use Rattle.fast_text.specs.TextForm.{named_product_header}
 use Rattle.fast_text.specs.FunctionText.{each_from, static_phase_text, parameters_text}
 use Rattle.fast_text.specs.FunctionText.{functions_to_link_text, capital, guard_text, lengths_text}
 use Rattle.fast_text.specs.FunctionText.{counts_text, asked_text, declared_functions_text, word_type_text}
@@ -198,8 +201,23 @@ named_header_text name fresh p =
     ++ first_values_text (callers_arrays_text fresh) fresh
     ++ linkage_text (asked_text capitals name ++ declared_functions_text name (word_type_text p.width.half))
 
+-- the function that multiplies vectors of this program place by place, and its header
+abbrev pub named_product_text : List ℕ → PlainWordProgram → List ℕ
+named_product_text name p =
+    word_header_text p ++ sizes_text p.width p.frame.modulus p.frame.lanes ++ functions_text ++ products_text
+    ++ product_function_text name p.frame.size
+
+abbrev pub named_product_header_text : List ℕ → PlainWordProgram → List ℕ
+named_product_header_text name p =
+    let capitals = map capital name in
+    word_header_text p ++ product_guard_text capitals
+    ++ product_macros_text capitals p.frame.size p.frame.modulus
+    ++ linkage_text (product_asked_text capitals name ++ declared_product_text name (word_type_text p.width.half))
+
 -- of a program that may read what is left over, or that does not
 abbrev pub words_text : TextForm → Bool → PlainWordProgram → List ℕ
 words_text with_arrays fresh p = arrays_and_phases_text fresh p
 words_text (named_function name) fresh p = named_function_text name fresh p
 words_text (named_header name) fresh p = named_header_text name fresh p
+words_text (named_product name) fresh p = named_product_text name p
+words_text (named_product_header name) fresh p = named_product_header_text name p

@@ -8,7 +8,7 @@ use Rattle.listing_text.specs.Reading.{above_all}
 use Rattle.word_code.specs.declared.program.Reduction.{Reduction}
 use Rattle.word_code.specs.Bare.{bare}
 use Rattle.word_code.specs.WordProgram.{Note, WordStmt, WordBody, PlainWordProgram, Loop, Do, NoStmts, AndStmts}
-use Rattle.fast_text.specs.TextForm.{TextForm, named_header}
+use Rattle.fast_text.specs.TextForm.{TextForm, named_header, named_product, named_product_header}
 use Rattle.fast_text.specs.WordReading.{words_at}
 use Rattle.fast_text.specs.WordText.{words_text}
 
@@ -46,13 +46,17 @@ pub record IsSpellable (p : PlainWordProgram) : Type 0 where
   pub notes : IsTrue (list_all have_notes_of_words p.phases)
 
 -- The text of this form is read as the program, and as saying whether arrays may hold any words. A header has no
--- statements.
+-- statements of the program, nor has a product.
 abbrev pub IsReadAs : TextForm → Bool → List ℕ → PlainWordProgram → Type 0
 IsReadAs (named_header name) fresh text p = Unit {0}
+IsReadAs (named_product name) fresh text p = Unit {0}
+IsReadAs (named_product_header name) fresh text p = Unit {0}
 IsReadAs form fresh text p = whole (words_at form) text ≡ Ok (fresh, p)
 
 abbrev pub HasStatements : TextForm → Type 0
 HasStatements (named_header name) = ⊥
+HasStatements (named_product name) = ⊥
+HasStatements (named_product_header name) = ⊥
 HasStatements form = Unit {0}
 
 -- two programs on words with the same text are the same, and what it says of their arrays is the same

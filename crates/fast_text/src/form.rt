@@ -9,4 +9,8 @@ pub enum Form<'a> {
     Function { name: &'a str },
     /// The header of that function.
     Header { name: &'a str },
+    /// The function that multiplies two vectors of the function of this name, place by place.
+    Product { name: &'a str },
+    /// The header of that function.
+    ProductHeader { name: &'a str },
 }

@@ -36,7 +36,8 @@ pub(crate) fn in_capitals(alloc: Global, name: &[u8]) -> Result<Vec<u8>, NoMemor
     Ok(text)
 }
 
-fn put_macro(
+/// Writes a macro of a number, whose name is in capitals and ends with the word.
+pub(crate) fn put_macro(
     out: &mut Vec<u8>,
     capitals: &[u8],
     word: &[u8],
@@ -123,7 +124,8 @@ pub(crate) fn put_counts(
     put_macro(out, capitals, b"_PHASES ", phases, b"\n")
 }
 
-fn put_named(out: &mut Vec<u8>, name: &[u8], text: &[u8]) -> Result<(), AllocError>
+/// Writes a name, and what comes behind it.
+pub(crate) fn put_named(out: &mut Vec<u8>, name: &[u8], text: &[u8]) -> Result<(), AllocError>
     ensures { OnOk result (out.new.items ≡ out.old.items ++ (name.now ++ text.now)) }
 {
     put_word(out, name)?;
@@ -246,8 +248,8 @@ fn put_functions_of(
     put_word(out, b"#ifdef __cplusplus\n}\n#endif\n#endif\n")
 }
 
-// The type of words that have a base with this square root.
-fn word_type(half: u64) -> &'static str
+/// The type of words that have a base with this square root.
+pub(crate) fn word_type(half: u64) -> &'static str
     ensures { result.now ≡ word_type_text half }
 {
     match half {

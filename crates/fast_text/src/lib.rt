@@ -10,6 +10,7 @@ pub mod laws;
 mod operations;
 mod places;
 mod printing;
+mod products;
 
 pub use form::Form;
 pub use printing::print_words;

@@ -5,7 +5,7 @@ ghost use Rattle.icode.specs.Limits.{IsHeaderWithin};
 ghost use Rattle.icode.specs.Plain.{plain_tables};
 ghost use Rattle.listing_text.specs.Wording.{header_of};
 ghost use Rattle.word_code.specs.Views.{plain_word_stmt, plain_word_body, plain_word_phases, plain_word_program};
-ghost use Rattle.fast_text.specs.WordText.{loop_text, word_stmt_text, word_body_text, word_header_text, word_table_text, word_tables_text, declared_text, word_phase_text, all_phases_text, front_text, arrays_and_phases_text, named_function_text, macros_text, named_header_text, words_text};
+ghost use Rattle.fast_text.specs.WordText.{loop_text, word_stmt_text, word_body_text, word_header_text, word_table_text, word_tables_text, declared_text, word_phase_text, all_phases_text, front_text, arrays_and_phases_text, named_function_text, macros_text, named_header_text, named_product_text, named_product_header_text, words_text};
 ghost use Rattle.fast_text.specs.FunctionText.{each_from};
 ghost use Rattle.fast_text.specs.TextForm.{text_form};
 ghost use Rattle.fast_text.specs.WordNests.{is_word_nest_within, are_word_nests_within, are_word_phases_within};
@@ -17,6 +17,9 @@ use crate::front::{put_arrays, put_functions, put_sizes};
 use crate::function::{put_functions_to_link, static_phase};
 use crate::header::{in_capitals, put_counts, put_guard, put_lengths, put_line_bytes, put_linked};
 use crate::operations::{put_op, put_reductions};
+use crate::products::{
+    put_linked_product, put_product_function, put_product_guard, put_product_macros, put_products,
+};
 use listing_text::{Header, array_words, put_header, put_numbered, put_word};
 use memory::NoMemory;
 use std::alloc::{AllocError, Global};
@@ -264,6 +267,44 @@ fn print_header(
     Ok(out)
 }
 
+// The function that multiplies vectors place by place.
+fn print_product(alloc: Global, name: &[u8], program: &WordProgram) -> Result<Vec<u8>, NoMemory>
+    ensures { IfOk result
+        (λ text. text.items ≡ named_product_text name.now (plain_word_program program.now)) }
+{
+    let mut out = Vec::new(alloc);
+    put_first(&mut out, program)?;
+    put_sizes(
+        &mut out,
+        program.half,
+        program.rough,
+        program.modulus,
+        program.lanes,
+    )?;
+    put_functions(&mut out)?;
+    put_products(&mut out)?;
+    put_product_function(&mut out, name, program.size)?;
+    Ok(out)
+}
+
+// The header of that function.
+fn print_product_header(
+    alloc: Global,
+    name: &[u8],
+    program: &WordProgram,
+) -> Result<Vec<u8>, NoMemory>
+    ensures { IfOk result
+        (λ text. text.items ≡ named_product_header_text name.now (plain_word_program program.now)) }
+{
+    let mut out = Vec::new(alloc);
+    let capitals = in_capitals(alloc, name)?;
+    put_first(&mut out, program)?;
+    put_product_guard(&mut out, &capitals)?;
+    put_product_macros(&mut out, &capitals, program.size, program.modulus)?;
+    put_linked_product(&mut out, &capitals, name, program.half)?;
+    Ok(out)
+}
+
 // The text of this form.
 fn text_of(
     alloc: Global,
@@ -281,6 +322,8 @@ fn text_of(
         Form::Arrays => print_arrays(alloc, fresh, program),
         Form::Function { name } => print_function(alloc, name.as_bytes(), fresh, program),
         Form::Header { name } => print_header(alloc, name.as_bytes(), fresh, program),
+        Form::Product { name } => print_product(alloc, name.as_bytes(), program),
+        Form::ProductHeader { name } => print_product_header(alloc, name.as_bytes(), program),
     }
 }
 

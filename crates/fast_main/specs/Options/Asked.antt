@@ -1,13 +1,14 @@
 -- What the words of a command line ask for.
 use Rattle.std.specs.Prelude.{◌≡◌, ◌⊎◌, ℕ, Bool, true, false, List, Option, Some, None, codes, option_map}
-use Rattle.std.specs.Prelude.{if◌then◌else◌}
+use Rattle.std.specs.Prelude.{◌||◌, if◌then◌else◌}
 use Rattle.std.specs.Option.{option_map_or}
 use Rattle.std.specs.Str.{bytes_eq}
 use Rattle.clap.specs.Words.{Row, Text, fault_of, first_of, matches_of}
 use Rattle.clap.specs.Walk.{is_empty}
 use Rattle.word_code.specs.declared.laziness.WordSize.{WordSize}
 use Rattle.word_code.specs.declared.laziness.WordSize.TheVariants.{Of16, Of32, Of52, Of64}
-use Rattle.fast_text.specs.TextForm.{TextForm, with_arrays, named_function, named_header}
+use Rattle.fast_text.specs.TextForm.{TextForm, with_arrays, named_function, named_header, named_product}
+use Rattle.fast_text.specs.TextForm.{named_product_header}
 use Rattle.fast_main.specs.Options.CommandLine.{fast_app}
 use Rattle.fast_main.specs.Options.Names.{is_free_name}
 
@@ -47,18 +48,22 @@ lanes_in rows = option_map_or lanes_named (first_of (codes "lanes") rows) (Some 
 abbrev pub is_given : Text → List Row → Bool
 is_given name rows = option_map_or (λ word. bytes_eq word (codes "true")) (first_of name rows) false
 
--- a function of this name, or its header
-abbrev pub named_form : Bool → Text → TextForm
-named_form false name = named_function name
-named_form true name = named_header name
+-- a function of this name, or its header; or the product of its vectors, or the header of that
+abbrev pub named_form : Bool → Bool → Text → TextForm
+named_form false false name = named_function name
+named_form true false name = named_header name
+named_form false true name = named_product name
+named_form true true name = named_product_header name
 
--- a name that is free is a function's; without one there are arrays, and no header
-abbrev pub form_by : Bool → Option Text → Option TextForm
-form_by wants_header (Some name) = if is_free_name name then Some (named_form wants_header name) else None
-form_by wants_header None = if wants_header then None else Some with_arrays
+-- a name that is free is a function's; without one there are arrays, and neither a header nor a product
+abbrev pub form_by : Bool → Bool → Option Text → Option TextForm
+form_by wants_header wants_product (Some name) =
+    if is_free_name name then Some (named_form wants_header wants_product name) else None
+form_by wants_header wants_product None = if wants_header || wants_product then None else Some with_arrays
 
 abbrev pub form_in : List Row → Option TextForm
-form_in rows = form_by (is_given (codes "header") rows) (first_of (codes "name") rows)
+form_in rows =
+    form_by (is_given (codes "header") rows) (is_given (codes "times") rows) (first_of (codes "name") rows)
 
 -- ---- all of it
 

@@ -18,8 +18,9 @@ bare_app = on_top (λ s. record s { disable_help_flag = true }) (new_app (codes 
 
 abbrev pub fast_app : App
 fast_app =
-    with_rule (with_rule (with_rule (with_rule bare_app
+    with_rule (with_rule (with_rule (with_rule (with_rule bare_app
     (option_rule (codes "words")))
     (option_rule (codes "lanes")))
     (option_rule (codes "name")))
-    (flag_rule (codes "header"))
+    (flag_rule (codes "header")))
+    (flag_rule (codes "times"))

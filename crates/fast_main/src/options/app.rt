@@ -1,6 +1,6 @@
 // The command line, as `clap` is told of it.
-ghost use Rattle.std.specs.Prelude.{◌≡◌, IfOk, false};
-ghost use Rattle.clap.specs.Words.{app_of, rule_of};
+ghost use Rattle.std.specs.Prelude.{◌≡◌, IfOk, codes, false};
+ghost use Rattle.clap.specs.Words.{app_of, rule_of, with_rule};
 ghost use Rattle.clap.specs.declared.Command.TheViews.{out-Command as fields_of};
 ghost use Rattle.fast_main.specs.Options.CommandLine.{option_rule, flag_rule, bare_app, fast_app};
 
@@ -30,16 +30,27 @@ fn bare<'a>(alloc: Global) -> Command<'a>
     Command::new(alloc, "spiral_fast").disable_help_flag(true)
 }
 
-/// The whole command line.
-pub(crate) fn fast_app<'a>(alloc: Global) -> Result<Command<'a>, AllocError>
-    ensures { IfOk result (λ r. app_of r ≡ fast_app) }
+// The options that have a value.
+fn with_values<'a>(alloc: Global) -> Result<Command<'a>, AllocError>
+    ensures app { IfOk result (λ r. app_of r ≡ with_rule (with_rule (with_rule bare_app
+        (option_rule (codes "words"))) (option_rule (codes "lanes"))) (option_rule (codes "name"))) }
+    ensures local { IfOk result (λ r. (fields_of r).has_globals ≡ false) }
 {
     let words = option(alloc, "words");
     let sized = bare(alloc).arg(words)?;
     let lanes = option(alloc, "lanes");
     let laned = sized.arg(lanes)?;
     let name = option(alloc, "name");
-    let named = laned.arg(name)?;
+    laned.arg(name)
+}
+
+/// The whole command line.
+pub(crate) fn fast_app<'a>(alloc: Global) -> Result<Command<'a>, AllocError>
+    ensures { IfOk result (λ r. app_of r ≡ fast_app) }
+{
+    let named = with_values(alloc)?;
     let header = flag(alloc, "header");
-    named.arg(header)
+    let headed = named.arg(header)?;
+    let times = flag(alloc, "times");
+    headed.arg(times)
 }

@@ -90,7 +90,11 @@ fn lanes_in(matches: &ArgMatches<'_>) -> Option<u64>
 fn form_in<'a>(matches: &ArgMatches<'a>) -> Option<Form<'a>>
     ensures { option_map text_form result ≡ form_in (rows_of (found_of matches.now)) }
 {
-    form_by(is_given(matches, "header"), option_in(matches, "name"))
+    form_by(
+        is_given(matches, "header"),
+        is_given(matches, "times"),
+        option_in(matches, "name"),
+    )
 }
 
 fn together<'a>(
