@@ -1,10 +1,14 @@
-// Products of residues, place by place: a function to link by itself, and its header. Each half of a product is multiplied by a
-// factor that is known, the high half by the base modulo M and the low half by 1, so that the products of the preamble make a
-// residue of it.
+// Products of residues, place by place: a function to link by itself, and its header. Each half of a product is
+// multiplied by a factor that is known, the high half by the base modulo M and the low half by 1, so that the
+// products of the preamble make a residue of it.
 
 ghost use Rattle.std.specs.Prelude.{◌≡◌, ◌++◌, OnOk};
 ghost use Rattle.fast_text.specs.FunctionText.{linkage_text, word_type_text};
-ghost use Rattle.fast_text.specs.ProductText.{halves_text, one_lane_halves_text, part_halves_of_52_text, part_halves_text, lane_halves_text, times_text, products_text, factors_check_text, each_product_text, product_function_text, product_asked_text, declared_product_text, product_guard_text, product_macros_text};
+ghost use Rattle.fast_text.specs.ProductText.{halves_text, one_lane_halves_text, part_halves_of_52_text};
+ghost use Rattle.fast_text.specs.ProductText.{part_halves_text, lane_halves_text, times_text, products_text};
+ghost use Rattle.fast_text.specs.ProductText.{factors_check_text, each_product_text, product_function_text};
+ghost use Rattle.fast_text.specs.ProductText.{product_asked_text, declared_product_text, product_guard_text};
+ghost use Rattle.fast_text.specs.ProductText.{product_macros_text};
 
 use crate::header::{put_macro, put_named, word_type};
 use listing_text::{put_numbered, put_word};
@@ -102,7 +106,8 @@ INLINE vec lows(vec a, vec b) { LANES(low_half(a.l[l], b.l[l])); }
     )
 }
 
-// A residue of each half, and their sum: the base modulo M and 1 are known factors, whose quotients a compiler computes.
+// A residue of each half, and their sum: the base modulo M and 1 are known factors, whose quotients a compiler
+// computes.
 #[tactic(auto, unfolding(crate::specs::ProductText::times_text))]
 fn put_times(out: &mut Vec<u8>) -> Result<(), AllocError>
     ensures { OnOk result (out.new.items ≡ out.old.items ++ times_text) }
