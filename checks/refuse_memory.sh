@@ -1,6 +1,6 @@
 #!/usr/bin/env bash
 # Refuses each allocation of some calls of both programs in turn: each run has to end with status 12, `spiral: out of memory`
-# and no output, and the first run that is refused nothing has to write what the call writes. Prints how many were refused.
+# and no output, and the first run that is refused nothing has to write and say what the call does. Prints how many were refused.
 set -euo pipefail
 top=$(cd "$(dirname "$0")/.." && pwd)
 program=$("$top/bin/build" spiral)
@@ -13,7 +13,7 @@ cc -O1 -shared -fPIC -Wall -Wextra -o "$work/refuse.so" "$top/checks/refuse.c" -
 refused_in_turn() {
   local request=$1 program=$2 number=1 status note refused
   shift 2
-  "$program" "$@" <"$work/input" >"$work/wanted"
+  "$program" "$@" <"$work/input" >"$work/wanted" 2>"$work/wanted note"
   refused="12 $(basename "$program"): out of memory"
   while true; do
     status=0
@@ -22,7 +22,7 @@ refused_in_turn() {
     [ ! -s "$work/got" ] && [ "$status ${note[*]}" = "$refused" ] || break
     number=$((number + 1))
   done
-  if [ "$status" -ne 0 ] || [ -s "$work/note" ] || ! cmp -s "$work/got" "$work/wanted" || [ "$number" -eq 1 ]; then
+  if [ "$status" -ne 0 ] || ! cmp -s "$work/note" "$work/wanted note" || ! cmp -s "$work/got" "$work/wanted" || [ "$number" -eq 1 ]; then
     echo "wrong: $request: $(basename "$program") $*: allocation $number refused, status $status: $(head -c 200 "$work/note")"
     exit 1
   fi
@@ -48,6 +48,8 @@ of_request() {
   refused_in_turn "$request" "$fast" --lanes 2
   refused_in_turn "$request" "$fast" --name transform
   refused_in_turn "$request" "$fast" --name transform --header
+  refused_in_turn "$request" "$fast" --name transform --times
+  refused_in_turn "$request" "$fast" --name transform --times --header
 }
 
 of_request 'dft 4 mod 17 root 4' '1 2 3 4'
