@@ -47,7 +47,7 @@ class Text:
 
     def __init__(self, folder, text, header=None):
         self.folder, self.header = folder, header
-        size, self.procs, line = map(int, re.match(r"/\* program size (\d+) mod \d+ procs (\d+) line (\d+) ", text).groups())
+        size, self.procs, line = map(int, re.search(r"^/\* program size (\d+) mod \d+ procs (\d+) line (\d+) ", text, re.M).groups())
         self.words = (size + line - 1) // line * line
         self.phases = len(re.findall(r"^(?:static )?void \w*phase\d+\(", text, re.M))
         self.write("text.c", text)
