@@ -95,9 +95,9 @@ unfoldable pub each_product_text : ℕ → List ℕ
 each_product_text size =
     numbered_text (codes "uint64_t n = 0;\nfor (; n + V <= ") size
     (codes "; n += V) store(out + n, times(load(a + n), load(b + n)));\nword x[V] = {0}, y[V] = {0};\n")
-    ++ numbered_text (codes "for (uint64_t k = n; k < ") size (codes "; k++) { x[k - n] = a[k]; y[k - n] = b[k]; }\n")
+    ++ numbered_text (codes "for (uint64_t l = 0; n + l < ") size (codes "; l++) { x[l] = a[n + l]; y[l] = b[n + l]; }\n")
     ++ codes "store(x, times(load(x), load(y)));\n"
-    ++ numbered_text (codes "for (uint64_t k = n; k < ") size (codes "; k++) out[k] = x[k - n];\n}\n")
+    ++ numbered_text (codes "for (uint64_t l = 0; n + l < ") size (codes "; l++) out[n + l] = x[l];\n}\n")
 
 -- the function of vectors of this size
 abbrev pub product_function_text : List ℕ → ℕ → List ℕ

@@ -172,17 +172,17 @@ word x[V] = {0}, y[V] = {0};
     )?;
     put_numbered(
         out,
-        b"for (uint64_t k = n; k < ",
+        b"for (uint64_t l = 0; n + l < ",
         size,
-        b"; k++) { x[k - n] = a[k]; y[k - n] = b[k]; }
+        b"; l++) { x[l] = a[n + l]; y[l] = b[n + l]; }
 ",
     )?;
     put_word(out, b"store(x, times(load(x), load(y)));\n")?;
     put_numbered(
         out,
-        b"for (uint64_t k = n; k < ",
+        b"for (uint64_t l = 0; n + l < ",
         size,
-        b"; k++) out[k] = x[k - n];
+        b"; l++) out[n + l] = x[l];
 }
 ",
     )
