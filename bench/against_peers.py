@@ -124,9 +124,9 @@ class Race:
         for (modulus, first), rows in self.tables.items():
             names = list(dict.fromkeys(name for row in rows.values() for name in row))
             print(f"\n{modulus}: {machine}; {compilers}; {datetime.date.today():%d %B %Y}; the least of {ROUNDS} runs; {first} takes 1.\n")
-            print("\n".join([f"| size | {' | '.join(names)} |", "|---" * (len(names) + 1) + "|"]))
-            for size, row in rows.items():
-                print(f"| {size} | {' | '.join(f'{row[name]:.2f}' if name in row else '' for name in names)} |")
+            print("\n".join([f"| points | {' | '.join(map(str, rows))} |", "|---" * (len(rows) + 1) + "|"]))
+            for name in names:
+                print(f"| {name} | {' | '.join(f'{row[name]:.2f}' if name in row else '' for row in rows.values())} |")
 
 
 def fast_text(request, *words):
